@@ -1,0 +1,4 @@
+pub mod Cases
+pub mod First
+pub mod Part
+pub mod Mask

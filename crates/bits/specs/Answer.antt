@@ -1,0 +1,9 @@
+-- What is said of an old-format mask: its length, or that it has a hole.
+use Prim.Native.Nat.{ℕ}
+use mathlib.Core.Bool.{cond}
+use Rattle.bits.specs.Mask.{maskLength, goodMask}
+use Rattle.bits.specs.declared.MaskAnswer.{MaskAnswer}
+use Rattle.bits.specs.declared.MaskAnswer.the-variants.{Length, Holed}
+
+unfoldable pub maskAnswer : ℕ → MaskAnswer
+maskAnswer m = cond (goodMask 32 m) (Length (maskLength 32 m)) Holed
