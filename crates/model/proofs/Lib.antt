@@ -1,0 +1,12 @@
+pub mod AllExamples
+pub mod Tests
+pub mod Order
+pub mod Routes
+pub mod Edits
+pub mod Append
+pub mod Match
+pub mod Walk
+pub mod Numbers
+pub mod Undo
+pub mod Lawful
+pub mod History

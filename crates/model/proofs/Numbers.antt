@@ -1,0 +1,124 @@
+-- The numbers: each is given exactly when its line holds and no earlier one does, and a call is accepted exactly when no line holds.
+use Prim.Native.Nat.{ℕ, zero, suc}
+use mathlib.Core.Path.{_≡_, refl, sym, ap, subst, _∙_}
+use mathlib.Core.Bool.{Bool, true, false, not, cond, _&&_, _||_, true≢false}
+use mathlib.Core.List.{List, [], _∷_}
+use mathlib.Core.Logic.{_⊎_, inl, inr, _↔_}
+use mathlib.Core.Option.{Option, none, some}
+use borrow.Author.Tests.{eqb-true, eq-eqb, not-true, not-false}
+use lib.Dec.{T, eqb}
+use Rattle.model.specs.Prefix.{Prefix, wellFormed}
+use Rattle.model.specs.Routes.{Route, find, present, holds}
+use Rattle.model.specs.State.{Rules, State, Meaning, full}
+use Rattle.model.specs.Call.{Call, fresh, add, delete, change, lookup, first, after, room, mask, openTrial, keep, backOut, stepBack, Line, firstDue, due, number, accepted, trialFull, stateOf}
+use Rattle.model.proofs.Tests.{both}
+
+-- ---- "each number is given exactly when its line holds and no earlier one does"
+
+-- n is the number of a line that holds while none before it does, or 0 while none does
+abbrev pub GivenBy : ℕ → List Line → Type 0
+GivenBy n [] = n ≡ 0
+GivenBy n (l ∷ ls) = ((l .1 ≡ true) × (n ≡ l .0)) ⊎ ((l .1 ≡ false) × GivenBy n ls)
+
+pub given-exactly : (n : ℕ) (ls : List Line) → (n ≡ firstDue ls) ↔ GivenBy n ls
+given-exactly n [] = (λ e. e, λ g. g)
+given-exactly n (l ∷ ls) = go (l .1) refl (given-exactly n ls)
+  where
+    back : (b : Bool) → l .1 ≡ b → (GivenBy n ls → n ≡ firstDue ls) → GivenBy n (l ∷ ls) → n ≡ cond b (l .0) (firstDue ls)
+    back true t ih (inl g) = g .1
+    back true t ih (inr g) = absurd (true≢false (sym t ∙ g .0))
+    back false t ih (inl g) = absurd (true≢false (sym (g .0) ∙ t))
+    back false t ih (inr g) = ih (g .1)
+
+    go : (b : Bool) → l .1 ≡ b → (n ≡ firstDue ls) ↔ GivenBy n ls → (n ≡ firstDue (l ∷ ls)) ↔ GivenBy n (l ∷ ls)
+    go true t ih = (λ e. inl (t, rw t at e), λ g. rw t (back true t (ih .1) g))
+    go false t ih = (λ e. inr (t, ih .0 (rw t at e)), λ g. rw t (back false t (ih .1) g))
+
+-- ---- an accepted call: no line holds
+
+abbrev pub Quiet : List Line → Type 0
+Quiet [] = Unit {0}
+Quiet (l ∷ ls) = (l .1 ≡ false) × Quiet ls
+
+-- no line has the number 0, which is what an accepted call answers
+abbrev refusals : List Line → Bool
+refusals [] = true
+refusals (l ∷ ls) = not (eqb (l .0) 0) && refusals ls
+
+quiet : (ls : List Line) → refusals ls ≡ true → firstDue ls ≡ 0 → Quiet ls
+quiet [] r e = tt
+quiet (l ∷ ls) r e = go (l .1) refl (quiet ls (w .1))
+  where
+    w : (not (eqb (l .0) 0) ≡ true) × (refusals ls ≡ true)
+    w = both (not (eqb (l .0) 0)) (refusals ls) r
+
+    go : (b : Bool) → l .1 ≡ b → (firstDue ls ≡ 0 → Quiet ls) → Quiet (l ∷ ls)
+    go true t ih = absurd (true≢false (sym (eq-eqb (l .0) 0 (rw t at e)) ∙ not-true _ (w .0)))
+    go false t ih = (t, ih (rw t at e))
+
+pub loud : (ls : List Line) → Quiet ls → firstDue ls ≡ 0
+loud [] q = refl
+loud (l ∷ ls) q = rw (q .0) (loud ls (q .1))
+
+module _ {P : Type 0} (R : Rules P) where
+  all-refusals : (c : Call P) (m : Meaning P) → refusals (due R c m) ≡ true
+  all-refusals (fresh c n) m = refl
+  all-refusals (add r) m = refl
+  all-refusals (delete p) m = refl
+  all-refusals (change r) m = refl
+  all-refusals (lookup d) m = refl
+  all-refusals first m = refl
+  all-refusals (after p) m = refl
+  all-refusals room m = refl
+  all-refusals (mask w) m = refl
+  all-refusals openTrial m = refl
+  all-refusals keep m = refl
+  all-refusals backOut m = refl
+  all-refusals stepBack m = refl
+
+  pub accepted-quiet : (c : Call P) (m : Meaning P) → accepted R c m ≡ true → Quiet (due R c m)
+  accepted-quiet c m t = quiet (due R c m) (all-refusals c m) (eqb-true _ _ t)
+
+  -- ---- "A duplicate in a full table gives 5", "65 gives 8, also when the table is full": the order of add's lines
+
+  module _ (r : Route P) (s : State P) (may : (wellFormed (R .width) (r .prefix) && R .mayHold (r .prefix)) ≡ true) (good : R .goodHop (r .prefix) (r .payload) ≡ true) where
+    pub duplicate-gives-5 : holds (r .prefix) (s .routes) ≡ true → number R (add r) (some s) ≡ 5
+    duplicate-gives-5 h = rw (may, good, h)
+
+    pub standing-gives-8 : holds (r .prefix) (s .routes) ≡ false → trialFull R s ≡ true → number R (add r) (some s) ≡ 8
+    standing-gives-8 h f = rw (may, good, h, f)
+
+    pub full-gives-7 : holds (r .prefix) (s .routes) ≡ false → trialFull R s ≡ false → full s ≡ true → number R (add r) (some s) ≡ 7
+    full-gives-7 h f e = rw (may, good, h, f, e)
+
+  -- ---- a pool that is not sound: 9 in every call that asks
+
+  abbrev pub asks : Call P → Bool
+  asks (fresh c n) = false
+  asks (add r) = true
+  asks (delete p) = true
+  asks (change r) = true
+  asks (lookup d) = true
+  asks first = true
+  asks (after p) = true
+  asks room = true
+  asks (mask w) = false
+  asks openTrial = true
+  asks keep = true
+  asks backOut = true
+  asks stepBack = true
+
+  pub unsound-gives-9 : (c : Call P) → asks c ≡ true → number R c none ≡ 9
+  unsound-gives-9 (fresh c n) t = absurd (true≢false (sym t))
+  unsound-gives-9 (add r) t = refl
+  unsound-gives-9 (delete p) t = refl
+  unsound-gives-9 (change r) t = refl
+  unsound-gives-9 (lookup d) t = refl
+  unsound-gives-9 first t = refl
+  unsound-gives-9 (after p) t = refl
+  unsound-gives-9 room t = refl
+  unsound-gives-9 (mask w) t = absurd (true≢false (sym t))
+  unsound-gives-9 openTrial t = refl
+  unsound-gives-9 keep t = refl
+  unsound-gives-9 backOut t = refl
+  unsound-gives-9 stepBack t = refl

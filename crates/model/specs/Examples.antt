@@ -1,0 +1,98 @@
+-- Document 01, "The bsdi table and its neighbours": the starred examples, one table.
+use Prim.Native.Nat.{ℕ, _+_, _*_}
+use mathlib.Core.List.{List, [], _∷_, map}
+use mathlib.Core.Option.{some}
+use Rattle.model.specs.Prefix.{Prefix}
+use Rattle.model.specs.Routes.{Route, insert, remove}
+use Rattle.model.specs.State.{Rules, State, Meaning, closed}
+use Rattle.model.specs.Call.{Call, lookup, after, mask, Value, nothing, route, count, number, value}
+use Rattle.model.specs.Ipv4.{Hop, direct, via, reject, ipv4}
+
+-- An address as it is written, a.b.c.d.
+abbrev pub ip : ℕ → ℕ → ℕ → ℕ → ℕ
+ip a b c d = ((a * 256 + b) * 256 + c) * 256 + d
+
+abbrev to : ℕ → ℕ → Hop → Route Hop
+to a n h = record { prefix = record { address = a; length = n }; payload = h }
+
+-- "From source document 000, ports 0 = le0, 1 = sl0, 2 = lo0".
+abbrev pub A : Route Hop
+A = to (ip 0 0 0 0) 0 (via 0 (ip 140 252 13 33))
+
+abbrev pub B : Route Hop
+B = to (ip 127 0 0 0) 8 reject
+
+abbrev pub C : Route Hop
+C = to (ip 127 0 0 1) 32 (direct 2)
+
+abbrev pub D : Route Hop
+D = to (ip 128 32 33 5) 32 (via 0 (ip 140 252 13 33))
+
+abbrev pub E : Route Hop
+E = to (ip 140 252 13 32) 27 (direct 0)
+
+abbrev pub F : Route Hop
+F = to (ip 140 252 13 33) 32 (direct 0)
+
+abbrev pub G : Route Hop
+G = to (ip 140 252 13 34) 32 (direct 0)
+
+abbrev pub H : Route Hop
+H = to (ip 140 252 13 35) 32 (direct 2)
+
+abbrev pub I : Route Hop
+I = to (ip 140 252 13 65) 32 (direct 1)
+
+abbrev pub J : Route Hop
+J = to (ip 224 0 0 0) 8 (direct 0)
+
+abbrev pub K : Route Hop
+K = to (ip 224 0 0 1) 32 (direct 0)
+
+-- "127.0.0.0/24 via 0 140.252.13.33".
+abbrev pub B24 : Route Hop
+B24 = to (ip 127 0 0 0) 24 (via 0 (ip 140 252 13 33))
+
+-- "The walk gives this order."
+abbrev pub bsdi : List (Route Hop)
+bsdi = A ∷ B ∷ C ∷ D ∷ E ∷ F ∷ G ∷ H ∷ I ∷ J ∷ K ∷ []
+
+-- An example: the routes of the table, a call, and the number and value that it is to answer.
+pub record Example : Type 0 where
+  pub routes : List (Route Hop)
+  pub call : Call Hop
+  pub wanted : ℕ × Value Hop
+
+abbrev gives : List (Route Hop) → ℕ → Route Hop → Example
+gives l d r = record { routes = l; call = lookup d; wanted = (0, route r) }
+
+abbrev refuses : List (Route Hop) → Call Hop → ℕ → Example
+refuses l c n = record { routes = l; call = c; wanted = (n, nothing) }
+
+abbrev pub examples : List Example
+examples =
+    gives bsdi (ip 127 0 0 1) C
+    ∷ gives bsdi (ip 127 0 0 2) B
+    ∷ gives bsdi (ip 127 0 0 3) B
+    ∷ gives bsdi (ip 140 252 13 35) H
+    ∷ gives bsdi (ip 140 252 13 60) E
+    ∷ gives bsdi (ip 140 252 13 188) A
+    ∷ gives bsdi (ip 10 1 2 3) A
+    ∷ gives bsdi (ip 224 0 0 5) J
+    ∷ refuses (remove (A .prefix) bsdi) (lookup (ip 10 1 2 3)) 13
+    ∷ refuses (remove (A .prefix) bsdi) (lookup (ip 0 0 0 0)) 13
+    ∷ refuses (remove (A .prefix) bsdi) (lookup (ip 255 255 255 255)) 13
+    ∷ gives (insert B24 bsdi) (ip 127 0 0 2) B24
+    ∷ gives (insert B24 bsdi) (ip 127 0 2 3) B
+    ∷ gives (insert B24 bsdi) (ip 127 0 0 1) C
+    ∷ record { routes = insert B24 bsdi; call = after (B24 .prefix); wanted = (0, route B) }
+    ∷ record { routes = bsdi; call = mask (ip 255 255 255 224); wanted = (0, count 27) }
+    ∷ record { routes = bsdi; call = mask (ip 0 0 0 0); wanted = (0, count 0) }
+    ∷ refuses bsdi (mask (ip 255 0 255 0)) 3
+    ∷ []
+
+-- What the model answers. The capacity is document 01's largest, and what a capacity needs in words is asked by none of these.
+abbrev pub answered : (ℕ → ℕ) → Example → ℕ × Value Hop
+answered words e =
+    let m : Meaning Hop = some (record { capacity = 96; routes = e .routes; trial = closed }) in
+    (number (ipv4 words) (e .call) m, value (ipv4 words) (e .call) m)

@@ -1,0 +1,33 @@
+-- The table of document 01: addresses of 32 bits, and hops.
+use Prim.Native.Nat.{ℕ, _+_, _*_}
+use mathlib.Core.Bool.{Bool, true, not, _&&_}
+use lib.Dec.{leb, eqb}
+use Rattle.model.specs.Prefix.{Prefix}
+use Rattle.model.specs.State.{Rules}
+
+-- "A hop is one of three kinds: direct (port), via (port and gateway address), reject."
+pub data Hop : Type 0 where
+  direct : (port : ℕ) → Hop
+  via : (port gateway : ℕ) → Hop
+  reject : Hop
+
+-- "Ports run from 0 to 15. Gateway 0.0.0.0 is bad."
+unfoldable pub goodHop : Hop → Bool
+goodHop (direct p) = leb p 15
+goodHop (via p g) = leb p 15 && not (eqb g 0)
+goodHop reject = true
+
+-- Which well-formed prefixes may be held: document 01 bars none.
+unfoldable pub mayHold : Prefix → Bool
+mayHold p = true
+
+-- The numbers of document 01: 32 bits, a capacity of 96 at most, 64 standing changes. How many words a capacity needs is the pool's to say.
+abbrev pub ipv4 : (ℕ → ℕ) → Rules Hop
+ipv4 words = record {
+  width = 32;
+  limit = 96;
+  words = words;
+  standing = 64;
+  mayHold = mayHold;
+  goodHop = λ p h. goodHop h;
+}

@@ -1,0 +1,9 @@
+pub mod Prefix
+pub mod Routes
+pub mod Match
+pub mod State
+pub mod Call
+pub mod Lawful
+pub mod History
+pub mod Ipv4
+pub mod Examples
