@@ -1,0 +1,12 @@
+pub mod Form
+pub mod Grows
+pub mod Search
+pub mod Find
+pub mod Change
+pub mod Hang
+pub mod Put
+pub mod Take
+pub mod Swap
+pub mod Size
+pub mod Unique
+pub mod Zip
