@@ -1,0 +1,13 @@
+-- What is tested of the head's numbers.
+use Prim.Native.Nat.{ℕ, _≤_}
+use mathlib.Core.Path.{_≡_}
+use mathlib.Core.List.{List}
+use Rattle.pool.specs.Layout.{capacityIn, trialIn, standingIn}
+
+pub record HeadFine (c : ℕ) (ws : List ℕ) : Type 0 where
+  pub atLeastOne : 1 ≤ c
+  pub inRange : c ≤ 96
+  pub capacityThere : capacityIn ws ≡ c
+  pub trialKnown : trialIn ws ≤ 1
+  pub few : standingIn ws ≤ 64
+  pub noneStanding : trialIn ws ≡ 0 → standingIn ws ≡ 0

@@ -1,0 +1,5 @@
+pub mod Chain
+pub mod Tree
+pub mod Marks
+pub mod Head
+pub mod Changes

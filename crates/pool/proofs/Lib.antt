@@ -1,0 +1,5 @@
+pub mod Words
+pub mod Unique
+pub mod Frame
+pub mod Local
+pub mod Distinct

@@ -1,0 +1,21 @@
+use Prim.Native.Nat.{ℕ, _+_}
+use mathlib.Core.Path.{ap}
+use lib.ListN.{getD}
+use borrow.Author.Needs.{needs}
+use Rattle.pool.proofs.read.mark_at.Statement.{statement}
+use Rattle.pool.proofs.read.mark_at.Tie as tie
+
+joint-requires : tie.Need-joint-requires
+joint-requires c κs = search needs
+
+mul-result : tie.Need-mul-result
+mul-result c = search needs
+
+shared-slice-read-result : tie.Need-shared-slice-read-result
+shared-slice-read-result c = search needs
+
+returns : tie.Need-returns
+returns c = ap (λ (n : ℕ). getD (c .before .before .before .args .pool .now) n 0) (c .before .joint .ensures)
+
+pub mark-at-spec : {M : Type 1} → statement M
+mark-at-spec = tie.close (tie.spec joint-requires mul-result shared-slice-read-result returns)

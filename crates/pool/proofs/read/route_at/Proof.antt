@@ -1,0 +1,29 @@
+use Prim.Native.Nat.{ℕ, _+_}
+use mathlib.Core.Path.{ap, _∙_}
+use Rattle.pool.specs.Layout.{prefixAt, hopAt}
+use borrow.Author.Needs.{needs}
+use Rattle.pool.proofs.read.route_at.Statement.{statement}
+use Rattle.pool.proofs.read.route_at.Tie as tie
+
+seat-requires : tie.Need-seat-requires
+seat-requires c κs = search needs
+
+add-prefix-at : tie.Need-add-prefix-at
+add-prefix-at c = search needs
+
+prefix-at-requires : tie.Need-prefix-at-requires
+prefix-at-requires c κs = search needs
+
+hop-at-requires : tie.Need-hop-at-requires
+hop-at-requires c κs = search needs
+
+returns : tie.Need-returns
+returns c =
+    let a = c .before .before .before .before .args in
+    let p = c .before .prefix-at .ensures ∙ ap (λ (n : ℕ). prefixAt (a .pool .now) (n + 3)) (c .before .before .seat .ensures) in
+    let h = c .hop-at .ensures ∙ ap (hopAt (a .pool .now)) (c .before .before .seat .ensures) in
+    λ i. record { prefix = p i; payload = h i }
+
+pub route-at-spec : {M : Type 1} → statement M
+route-at-spec =
+    tie.close (tie.spec seat-requires add-prefix-at prefix-at-requires hop-at-requires returns)

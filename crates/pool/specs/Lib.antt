@@ -1,0 +1,5 @@
+pub mod Layout
+pub mod Link
+pub mod Holds
+pub mod Means
+pub mod Write

@@ -1,0 +1,42 @@
+ghost use mathlib.Core.Path.{_≡_};
+ghost use Prim.Native.Nat.{_≤_, _<_};
+ghost use Rattle.pool.specs.Layout as layout;
+use super::link::Place;
+
+// The largest capacity.
+pub const LIMIT: u32 = 96;
+
+// The most changes that may stand in a trial.
+pub const CHANGES: usize = 64;
+
+// The words that a capacity needs.
+pub fn size_of(capacity: usize) -> usize
+    requires { ⌜ capacity ≤ 4294967295 ⌝ }
+    ensures { λ r. ⌜ r ≡ layout.size capacity ⌝ }
+{
+    1032 + 12 * capacity
+}
+
+// Where a route place begins.
+pub fn seat(place: Place) -> usize
+    requires { ⌜ place .0 ≤ 4294967295 ⌝ }
+    ensures { λ r. ⌜ r ≡ layout.seat (place .0) ⌝ }
+{
+    8 + 8 * place.0
+}
+
+// Where an inner place begins.
+pub fn joint(capacity: usize, place: Place) -> usize
+    requires { ⌜ (capacity ≤ 4294967295) × (place .0 ≤ 4294967295) ⌝ }
+    ensures { λ r. ⌜ r ≡ layout.joint capacity (place .0) ⌝ }
+{
+    8 + 8 * capacity + 4 * place.0
+}
+
+// Where a recorded change begins.
+pub fn slot(capacity: usize, change: usize) -> usize
+    requires { ⌜ (capacity ≤ 4294967295) × (change ≤ 4294967295) ⌝ }
+    ensures { λ r. ⌜ r ≡ layout.slot capacity change ⌝ }
+{
+    8 + 12 * capacity + 16 * change
+}

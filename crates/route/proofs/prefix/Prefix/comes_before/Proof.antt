@@ -1,0 +1,12 @@
+use Rattle.route.proofs.Laws.{before-within, before-across}
+use Rattle.route.proofs.prefix.Prefix.comes_before.Statement.{statement}
+use Rattle.route.proofs.prefix.Prefix.comes_before.Tie as tie
+
+returns : tie.Need-returns
+returns c = before-within _ _ (c .before .before .if1 .taken)
+
+returns-2 : tie.Need-returns-2
+returns-2 c = before-across _ _ (c .before .before .if1 .left)
+
+pub comes-before-spec : {M : Type 1} → statement M
+comes-before-spec = tie.close (tie.spec returns returns-2)

@@ -1,0 +1,57 @@
+-- Document 01's number and value for each answer.
+use Prim.Native.Nat.{ℕ}
+use Rattle.model.specs.Ipv4.{Hop as ModelHop}
+use Rattle.model.specs.Call.{Value, nothing, route, count}
+use Rattle.route.specs.Means.{routeOf}
+use Rattle.route.specs.declared.answer.Refusal.{Refusal}
+use Rattle.route.specs.declared.answer.Refusal.the-variants.{BadCapacity, ShortBuffer, BadPrefix, BadHop, AlreadyThere, NotThere, TableFull, TrialFull, NotSound, TrialIsOpen, NoTrial, NothingStanding, NoMatch, NoFurther}
+use Rattle.route.specs.declared.answer.Found as found
+use Rattle.route.specs.declared.answer.Room as room
+use Rattle.route.specs.declared.answer.Measured as measured
+use Rattle.route.specs.declared.answer.Done as done
+
+-- The table of numbers.
+abbrev pub refusalNumber : Refusal → ℕ
+refusalNumber BadCapacity = 1
+refusalNumber ShortBuffer = 2
+refusalNumber BadPrefix = 3
+refusalNumber BadHop = 4
+refusalNumber AlreadyThere = 5
+refusalNumber NotThere = 6
+refusalNumber TableFull = 7
+refusalNumber TrialFull = 8
+refusalNumber NotSound = 9
+refusalNumber TrialIsOpen = 10
+refusalNumber NoTrial = 11
+refusalNumber NothingStanding = 12
+refusalNumber NoMatch = 13
+refusalNumber NoFurther = 14
+
+-- What each answer says: its number, and its value in the model's words. "A refusal has no value."
+abbrev pub foundNumber : found.Found → ℕ
+foundNumber (found.Found.Route r) = 0
+foundNumber (found.Found.Refused x) = refusalNumber x
+
+abbrev pub foundValue : found.Found → Value ModelHop
+foundValue (found.Found.Route r) = route (routeOf r)
+foundValue (found.Found.Refused x) = nothing
+
+abbrev pub roomNumber : room.Room → ℕ
+roomNumber (room.Room.Left n) = 0
+roomNumber (room.Room.Refused x) = refusalNumber x
+
+abbrev pub roomValue : room.Room → Value ModelHop
+roomValue (room.Room.Left n) = count n
+roomValue (room.Room.Refused x) = nothing
+
+abbrev pub measuredNumber : measured.Measured → ℕ
+measuredNumber (measured.Measured.Length n) = 0
+measuredNumber (measured.Measured.Refused x) = refusalNumber x
+
+abbrev pub measuredValue : measured.Measured → Value ModelHop
+measuredValue (measured.Measured.Length n) = count (n .0)
+measuredValue (measured.Measured.Refused x) = nothing
+
+abbrev pub doneNumber : done.Done → ℕ
+doneNumber done.Done.Yes = 0
+doneNumber (done.Done.Refused x) = refusalNumber x

@@ -1,0 +1,42 @@
+ghost use mathlib.Core.Path.{_≡_};
+ghost use Rattle.model.specs.Ipv4.{goodHop};
+ghost use Rattle.route.specs.Means.{hopOf};
+use super::prefix::Prefix;
+
+// A port number.
+pub struct Port(pub u32);
+
+// The last port that there is.
+pub const LAST_PORT: u32 = 15;
+
+// Where a route leads: straight out of a port, by a gateway behind a port, or nowhere.
+pub enum Hop {
+    Direct(Port),
+    Via(Port, u32),
+    Reject,
+}
+
+impl Hop {
+    // Ports run from 0 to 15, and gateway 0.0.0.0 is bad.
+    pub fn is_good(self) -> bool
+        ensures { λ r. ⌜ r ≡ goodHop (hopOf self) ⌝ }
+    {
+        match self {
+            Hop::Direct(port) => port.0 <= LAST_PORT,
+            Hop::Via(port, gateway) => {
+                if port.0 <= LAST_PORT {
+                    gateway != 0
+                } else {
+                    false
+                }
+            }
+            Hop::Reject => true,
+        }
+    }
+}
+
+// Every route holds its hop.
+pub struct Route {
+    pub prefix: Prefix,
+    pub hop: Hop,
+}

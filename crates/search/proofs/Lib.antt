@@ -1,0 +1,13 @@
+pub mod Sight
+pub mod Bare
+pub mod Partway
+pub mod Led
+pub mod Chain
+pub mod Spots
+pub mod Left
+pub mod Rise
+pub mod Climbing
+pub mod Around
+pub mod Fronts
+pub mod Rejoin
+pub mod Onward

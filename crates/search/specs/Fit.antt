@@ -1,0 +1,9 @@
+-- The words of a pool of capacity c, and no more: they may be anything.
+use Prim.Native.Nat.{ℕ, _≤_}
+use mathlib.Core.Path.{_≡_}
+use mathlib.Core.List.{List}
+use lib.ListN.{length}
+use Rattle.pool.specs.Layout.{size}
+
+abbrev pub Fit : ℕ → List ℕ → Type 0
+Fit c ws = (c ≤ 65535) × (length ws ≡ size c)

@@ -1,0 +1,90 @@
+ghost use mathlib.Core.Path.{_≡_};
+ghost use Prim.Native.Nat.{_<_};
+ghost use Rattle.model.specs.Prefix.{same};
+ghost use Rattle.route.specs.Means.{prefixOf};
+ghost use Rattle.search.specs.Fit.{Fit};
+ghost use Rattle.search.specs.Chain.{HungRight};
+ghost use Rattle.search.specs.Find.{SpotIn, Finds};
+use super::descent::End;
+use super::descent::down;
+use pool::Link;
+use pool::Place;
+use route::Length;
+use route::Prefix;
+
+// What comes behind a route of a leaf: another one, the end, or what no sound pool has.
+pub enum Hung {
+    Route(Place),
+    End,
+    Damaged,
+}
+
+// What a link of a leaf leads to, where the lengths must be below that of the route before.
+pub fn follow(pool: &[u32], capacity: usize, place: Place, length: Length) -> Hung
+    requires { ⌜ Fit capacity (now pool) ⌝ }
+    requires { ⌜ place .0 < capacity ⌝ }
+    ensures { λ r. ⌜ HungRight capacity (now (pool .entry)) (place .0) (length .0) r ⌝ }
+{
+    match pool::link_from(pool::next_at(pool, place)) {
+        Link::Nothing => Hung::End,
+        Link::Route(next) => {
+            if capacity <= next.0 {
+                return Hung::Damaged;
+            }
+            let prefix = pool::prefix_at(pool, pool::seat(next) + 3);
+            if prefix.length.0 < length.0 {
+                Hung::Route(next)
+            } else {
+                Hung::Damaged
+            }
+        }
+        Link::Inner(_) => Hung::Damaged,
+    }
+}
+
+// Where a prefix is held.
+pub enum Spot {
+    At(Place),
+    Absent,
+    Damaged,
+}
+
+// The place of a prefix among the routes of a leaf.
+fn along(pool: &[u32], capacity: usize, first: Place, prefix: Prefix) -> Spot
+    requires { ⌜ Fit capacity (now pool) ⌝ }
+    requires { ⌜ first .0 < capacity ⌝ }
+    ensures { λ r. ⌜ SpotIn capacity (now (pool .entry)) (first .0) (same (prefixOf prefix)) r ⌝ }
+{
+    let mut place = first;
+    loop {
+        let held = pool::prefix_at(pool, pool::seat(place) + 3);
+        if prefix.is(held) {
+            return Spot::At(place);
+        }
+        match follow(pool, capacity, place, held.length) {
+            Hung::Route(next) => {
+                place = next;
+            }
+            Hung::End => {
+                return Spot::Absent;
+            }
+            Hung::Damaged => {
+                return Spot::Damaged;
+            }
+        }
+    }
+}
+
+// Exact search: down by the prefix's address, and along the leaf's routes for the length.
+pub fn find(pool: &[u32], capacity: usize, prefix: Prefix) -> Spot
+    requires { ⌜ Fit capacity (now pool) ⌝ }
+    ensures { λ r. ⌜ Finds capacity (now (pool .entry)) (prefixOf prefix) r ⌝ }
+{
+    let way = down(pool, capacity, prefix.address);
+    let end = way.end;
+    match end {
+        End::Leaf(place) => along(pool, capacity, place, prefix),
+        End::Empty => Spot::Absent,
+        End::Damaged => Spot::Damaged,
+    }
+}

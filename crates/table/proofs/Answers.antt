@@ -1,0 +1,46 @@
+-- What each reading call answers.
+use Prim.Native.Nat.{ℕ, zero, suc, _+_, _-_, _≤_}
+use mathlib.Core.Path.{_≡_, refl, sym, ap, ap₂, subst, _∙_}
+use mathlib.Core.Bool.{Bool, true, false, not, cond}
+use mathlib.Core.List.{List}
+use mathlib.Core.Option.{Option, none, some}
+use native.Mathlib.Omega.{arith}
+use lib.ListN.{length}
+use Rattle.bits.specs.Mask.{goodMask, maskLength}
+use Rattle.model.specs.Ipv4.{Hop}
+use Rattle.model.specs.State.{State, Meaning}
+use Rattle.model.specs.Call.{Call, room, mask, Value, nothing, count, number, value, next}
+use Rattle.pool.specs.Layout.{word, rules, size, capacityIn}
+use Rattle.pool.specs.Means.{Means, Sound}
+use Rattle.route.specs.Answers.{measuredNumber, measuredValue}
+use Rattle.route.specs.Masks.{measuredAs}
+use Rattle.route.specs.declared.answer.Measured.{Measured}
+use Rattle.table.specs.Promise.{Meant, Promise}
+use Rattle.table.proofs.Promises.{answers}
+
+-- "Room left is the capacity less the routes held."
+pub room-answer : (ws : List ℕ) (s : State Hop) → Means ws s → Promise (size (capacityIn ws)) room ws ws 0 (count (word ws 0 - word ws 1))
+room-answer ws s m = answers (size (capacityIn ws)) room ws (count (word ws 0 - word ws 1)) s m refl (ap count (sym (λ i. m .capacityThere i - m .countThere i))) refl
+
+-- a mask is asked of no pool
+pub mask-answer : (own : ℕ) (ws : List ℕ) (w : ℕ) (r : Measured) → r ≡ measuredAs w → Promise own (mask w) ws ws (measuredNumber r) (measuredValue r)
+unfolding measuredAs
+mask-answer own ws w r e = subst (λ (x : Measured). Promise own (mask w) ws ws (measuredNumber x) (measuredValue x)) (sym e) (go (goodMask 32 w) refl)
+  where
+    go : (b : Bool) → goodMask 32 w ≡ b → Promise own (mask w) ws ws (measuredNumber (measuredAs w)) (measuredValue (measuredAs w))
+    go true t = record {
+      numberIs = λ m h. rw t;
+      valueIs = λ m h. rw t;
+      meaningIs = λ m h. rw t h;
+      refusalKeeps = λ k. refl;
+      long = refl;
+      pastKeeps = λ i k. refl;
+    }
+    go false t = record {
+      numberIs = λ m h. rw t;
+      valueIs = λ m h. rw t;
+      meaningIs = λ m h. rw t h;
+      refusalKeeps = λ k. refl;
+      long = refl;
+      pastKeeps = λ i k. refl;
+    }

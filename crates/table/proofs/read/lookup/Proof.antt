@@ -1,0 +1,46 @@
+use mathlib.Core.Path.{refl, sym, subst, _∙_}
+use mathlib.Core.Logic.{inl, inr}
+use native.Mathlib.Omega.{arith}
+use Rattle.table.specs.Own.{OwnRight}
+use Rattle.table.proofs.Lent.{own-fits}
+use Rattle.table.proofs.Founds.{lookup-answer}
+use borrow.Author.Needs.{needs}
+use Rattle.table.proofs.read.lookup.Statement.{statement}
+use Rattle.table.proofs.read.lookup.Tie as tie
+
+own-words-requires : tie.Need-own-words-requires
+own-words-requires c κs = search needs
+
+enum-known-capacity : tie.Need-enum-known-capacity
+enum-known-capacity c = search needs
+
+size-of-requires : tie.Need-size-of-requires
+size-of-requires c κs = let o = subst (OwnRight (c .before .before .before .before .before .args .pool .now)) (c .before .capacity .given .1) (c .before .before .before .own-words .ensures) in omega (arith, o .1)
+
+slice-aggregate-lookup : tie.Need-slice-aggregate-lookup
+slice-aggregate-lookup c = let o = subst (OwnRight (c .before .before .before .before .before .before .before .args .pool .now)) (c .before .before .before .capacity .given .1) (c .before .before .before .before .before .own-words .ensures) in c .before .size-of .ensures ∙ sym (own-fits (c .before .before .before .before .before .before .before .args .pool .now) _ _ o (c .before .size-of .ensures) .1)
+
+lookup-requires : tie.Need-lookup-requires
+lookup-requires c κs = let o = subst (OwnRight (c .before .before .before .before .before .before .before .args .pool .now)) (c .before .before .before .capacity .given .1) (c .before .before .before .before .before .own-words .ensures) in own-fits (c .before .before .before .before .before .before .before .args .pool .now) _ _ o (c .before .size-of .ensures)
+
+enum-told : tie.Need-enum-told
+enum-told c = search needs
+
+returns : tie.Need-returns
+returns c = let o = subst (OwnRight (c .before .before .before .before .before .before .before .before .args .pool .now)) (c .before .before .before .before .capacity .given .1) (c .before .before .before .before .before .before .own-words .ensures) in lookup-answer (c .before .before .before .before .before .before .before .before .args .pool .now) _ _ o (c .before .before .size-of .ensures) (c .before .before .before .before .before .before .before .before .args .destination) (c .lookup .result) (c .lookup .ensures)
+
+returns-2 : tie.Need-returns-2
+returns-2 c = let n = subst (OwnRight (c .before .before .before .before .args .pool .now)) (c .enum-told .given .1) (c .before .before .own-words .ensures) in record { numberIs = λ s m. absurd (n (s, m)); valueIs = λ s m. absurd (n (s, m)); loose = inr (inl refl) }
+
+pub lookup-spec : {M : Type 1} → statement M
+lookup-spec =
+    tie.close
+    (tie.spec
+    own-words-requires
+    enum-known-capacity
+    size-of-requires
+    slice-aggregate-lookup
+    lookup-requires
+    enum-told
+    returns
+    returns-2)

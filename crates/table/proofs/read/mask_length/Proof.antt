@@ -1,0 +1,13 @@
+use Rattle.table.proofs.Answers.{mask-answer}
+use borrow.Author.Needs.{needs}
+use Rattle.table.proofs.read.mask_length.Statement.{statement}
+use Rattle.table.proofs.read.mask_length.Tie as tie
+
+measure-requires : tie.Need-measure-requires
+measure-requires c κs = search needs
+
+returns : tie.Need-returns
+returns c own ws = mask-answer own ws (c .before .args .mask) (c .measure .result) (c .measure .ensures)
+
+pub mask-length-spec : {M : Type 1} → statement M
+mask-length-spec = tie.close (tie.spec measure-requires returns)

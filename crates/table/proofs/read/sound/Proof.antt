@@ -1,0 +1,24 @@
+use mathlib.Core.Path.{refl, subst}
+use mathlib.Core.Bool.{false≢true}
+use Rattle.table.specs.Own.{TestedRight}
+use borrow.Author.Needs.{needs}
+use Rattle.table.proofs.read.sound.Statement.{statement}
+use Rattle.table.proofs.read.sound.Tie as tie
+
+tested-requires : tie.Need-tested-requires
+tested-requires c κs = search needs
+
+enum-told : tie.Need-enum-told
+enum-told c = search needs
+
+enum-told-2 : tie.Need-enum-told-2
+enum-told-2 c = search needs
+
+returns : tie.Need-returns
+returns c = let v = subst (TestedRight (c .before .before .before .before .args .pool .now)) (c .enum-told .given .1) (c .before .before .tested .ensures) in (λ t. (v .0, v .1), λ s. refl)
+
+returns-2 : tie.Need-returns-2
+returns-2 c = let v = subst (TestedRight (c .before .before .before .before .args .pool .now)) (c .enum-told2 .given .1) (c .before .before .tested .ensures) in (λ t. absurd (false≢true t), λ s. absurd (v s))
+
+pub sound-spec : {M : Type 1} → statement M
+sound-spec = tie.close (tie.spec tested-requires enum-told enum-told-2 returns returns-2)

@@ -1,0 +1,37 @@
+-- What a call owes, for any words: document 01's "What counts as pinned down".
+use Prim.Native.Nat.{ℕ, _≤_}
+use mathlib.Core.Path.{_≡_}
+use mathlib.Core.List.{List}
+use mathlib.Core.Logic.{_⊎_}
+use mathlib.Core.Option.{Option, none, some}
+use lib.ListN.{length}
+use Rattle.model.specs.Ipv4.{Hop}
+use Rattle.model.specs.State.{State, Meaning}
+use Rattle.model.specs.Call.{Call, lookup, Value, number, value, next}
+use Rattle.pool.specs.Layout.{word, rules}
+use Rattle.pool.specs.Means.{Means, Sound}
+
+-- What words mean: a state if they are a sound pool, else nothing.
+abbrev pub Meant : List ℕ → Meaning Hop → Type 0
+Meant ws none = Sound ws → ⊥
+Meant ws (some s) = Means ws s
+
+-- A call on these words leaves those, with this number and this value; `own` is the pool's size.
+pub record Promise (own : ℕ) (c : Call Hop) (before after : List ℕ) (n : ℕ) (v : Value Hop) : Type 0 where
+  -- the number is the model's: 9 first, if the pool is not sound and the call asks
+  pub numberIs : (m : Meaning Hop) → Meant before m → n ≡ number rules c m
+  -- and so is the value
+  pub valueIs : (m : Meaning Hop) → Meant before m → v ≡ value rules c m
+  -- and the pool then means what the model says
+  pub meaningIs : (m : Meaning Hop) → Meant before m → Meant after (next rules c m)
+  -- "A refusal changes no lent word."
+  pub refusalKeeps : (n ≡ 0 → ⊥) → after ≡ before
+  -- "Words past that size are never .. written."
+  pub long : length after ≡ length before
+  pub pastKeeps : (i : ℕ) → own ≤ i → word after i ≡ word before i
+
+-- A lookup writes nothing; in a pool that is not sound it "ends, reads only the pool .. and answers 0, 9 or 13; in a sound one never 9".
+pub record LookupPromise (d : ℕ) (ws : List ℕ) (n : ℕ) (v : Value Hop) : Type 0 where
+  pub numberIs : (s : State Hop) → Means ws s → n ≡ number rules (lookup d) (some s)
+  pub valueIs : (s : State Hop) → Means ws s → v ≡ value rules (lookup d) (some s)
+  pub loose : (n ≡ 0) ⊎ ((n ≡ 9) ⊎ (n ≡ 13))
