@@ -1,0 +1,126 @@
+-- The tree that the words of a state hold, its places, and a route as it is written.
+use Prim.Native.Nat.{ℕ, zero, suc, _+_, _*_, _≤_, _<_}
+use mathlib.Core.Path.{_≡_, refl, sym, ap, subst, _∙_}
+use mathlib.Core.Bool.{true}
+use mathlib.Core.List.{List, [], _∷_, _++_}
+use mathlib.Core.Logic.{_⊎_, inl, inr, ⊎-elim}
+use mathlib.Core.Option.{Option, none, some}
+use native.Mathlib.Nat.{le-trans}
+use native.Mathlib.Omega.{arith}
+use lib.ListN.{length}
+use Rattle.model.specs.Prefix.{Prefix, wellFormed}
+use Rattle.model.specs.Routes.{Route, find, insert}
+use Rattle.model.specs.Ipv4.{Hop, direct, via, reject}
+use Rattle.model.specs.State.{State, changes}
+use Rattle.patricia.specs.Tree.{Entry, Tree, leaf, node, Root, routeOf, routes, rootRoutes}
+use Rattle.patricia.specs.Way.{Step, wentLeft, wentRight, plug}
+use Rattle.patricia.proofs.Form.{Good, RootGood}
+use Rattle.patricia.proofs.Zip.{Follows, reached-plug, hang-plug}
+use Rattle.pool.specs.Layout.{word, size, seat, joint, kindAt, nextAt, hopAt, hopFrom, prefixAt, markAt}
+use Rattle.pool.specs.Link.{toRoute, toInner}
+use Rattle.pool.specs.Write.{kindOf, portOf, gatewayOf}
+use Rattle.pool.specs.Holds.{Seat, Seated, bareEntry, bareEntries, bare, InPlace, Chain, Holds, HoldsRoot, bareRoot, chainPlaces, routePlaces, innerPlaces}
+use Rattle.pool.specs.Means.{Among, routesUsed, innersUsed}
+use Rattle.pool.proofs.Distinct.{Distinct, routes-distinct, inners-distinct}
+use Rattle.pool.proofs.Frame.{among-append, append-among, routes-in-pool, inners-in-pool}
+use Rattle.edit.specs.Cells.{cellOf, endCell, Longer}
+use Rattle.edit.specs.Writes.{Write, writes, routeWrites, innerWrites}
+use Rattle.edit.proofs.Way.{bareWay, bare-plug, HoldsWay, plug-way, wayRoutes, wayInners, routes-plug, plug-routes, inners-plug, plug-inners, InnerBut}
+use Rattle.edit.proofs.Writes.{Off, On, off-append, word-off, word-on, on-left, on-right, length-writes}
+use Rattle.edit.proofs.Spared.{Cell, Clear, way-cell, chain-cell, cell-clear, OffSeat, seats-apart, off-route, route-spared, inner-spared, aside}
+use Rattle.edit.specs.Encodes.{Encodes}
+use Rattle.edit.proofs.Encodes.{Aside, encodes-edit}
+
+-- ---- small facts
+
+-- the entry of a route in a place
+abbrev pub entryAt : ℕ → Route Hop → Entry Seat
+entryAt i r = record { length = r .prefix .length; payload = record { place = i; hop = r .payload } }
+
+pub kind-known : (h : Hop) → (1 ≤ kindOf h) × (kindOf h ≤ 3)
+kind-known (direct p) = omega arith
+kind-known (via p g) = omega arith
+kind-known reject = omega arith
+
+pub hop-back : (h : Hop) → hopFrom (kindOf h) (portOf h) (gatewayOf h) ≡ h
+hop-back (direct p) = refl
+hop-back (via p g) = refl
+hop-back reject = refl
+
+-- what stands in a place of the tree is used
+chain-used : (c : ℕ) (ws : List ℕ) (a link : ℕ) (es : List (Entry Seat)) → Chain c ws a link es → (i : ℕ) → Among i (chainPlaces es) → 1 ≤ kindAt ws i
+chain-used c ws a link (e ∷ es) h i (inl p) = subst (λ (n : ℕ). 1 ≤ kindAt ws n) (sym p) (h .1 .used)
+chain-used c ws a link (e ∷ es) h i (inr k) = chain-used c ws a (nextAt ws (e .payload .place)) es (h .2) i k
+
+pub place-used : (c : ℕ) (ws : List ℕ) (link : ℕ) (t : Seated) → Holds c ws link t → (i : ℕ) → Among i (routePlaces t) → 1 ≤ kindAt ws i
+place-used c ws link (leaf a []) h i k = absurd k
+place-used c ws link (leaf a (e ∷ es)) h i k = chain-used c ws a link (e ∷ es) h i k
+place-used c ws link (node j b l r) h i k =
+    ⊎-elim (λ u. place-used c ws _ l (h .3) i u) (λ u. place-used c ws _ r (h .4) i u) (append-among i (routePlaces l) (routePlaces r) k)
+
+pub inner-used : (c : ℕ) (ws : List ℕ) (link : ℕ) (t : Seated) → Holds c ws link t → (i : ℕ) → Among i (innerPlaces t) → 1 ≤ markAt c ws i
+inner-used c ws link (leaf a es) h i k = absurd k
+inner-used c ws link (node j b l r) h i (inl e) = subst (λ (n : ℕ). 1 ≤ markAt c ws n) (sym e) (omega (arith, h .2))
+inner-used c ws link (node j b l r) h i (inr k) =
+    ⊎-elim (λ u. inner-used c ws _ l (h .3) i u) (λ u. inner-used c ws _ r (h .4) i u) (append-among i (innerPlaces l) (innerPlaces r) k)
+
+-- a free place is not in the tree
+pub free-new : (c : ℕ) (ws : List ℕ) (link : ℕ) (t : Seated) → Holds c ws link t → (i : ℕ) → kindAt ws i ≡ 0 → Among i (routePlaces t) → ⊥
+free-new c ws link t h i z k = omega (arith, place-used c ws link t h i k, z)
+
+pub follows-bare : (a : ℕ) (w : List (Step ℕ Seat)) → Follows 32 a w → Follows 32 a (bareWay w)
+follows-bare a [] f = tt
+follows-bare a (wentLeft j b r ∷ w) f = (f .0, follows-bare a w (f .1))
+follows-bare a (wentRight j b l ∷ w) f = (f .0, follows-bare a w (f .1))
+
+-- a list with a member is not empty
+pub some-there : (xs : List (Entry Seat)) (y : Entry Seat) (ys : List (Entry Seat)) → xs ++ (y ∷ ys) ≡ [] → ⊥
+some-there [] y ys f = let z : _≡_ {A = ℕ} 0 1 = cc in omega arith
+some-there (x ∷ xs) y ys f = let z : _≡_ {A = ℕ} 0 1 = cc in omega arith
+
+-- ---- the route as written
+
+module _ (c : ℕ) (ws : List ℕ) (i : ℕ) (r : Route Hop) (n : ℕ) (more : List Write) (l : i < c) (fits : size c ≤ length ws)
+    (off : (x : ℕ) → seat i ≤ x → x < seat i + 8 → Off x more) where
+  at : (x v : ℕ) → seat i ≤ x → x < seat i + 8 → On x v (routeWrites i r n) → word (writes (routeWrites i r n ++ more) ws) x ≡ v
+  at x v a b o = word-on x v (routeWrites i r n ++ more) ws (omega arith) (on-left x v (routeWrites i r n) more o (off x a b))
+
+  pub route-written : InPlace c (writes (routeWrites i r n ++ more) ws) (r .prefix .address) (entryAt i r)
+  route-written =
+      let kind = at (seat i) (kindOf (r .payload)) (omega arith) (omega arith) (inl (refl, refl, omega arith)) in
+      let port = at (seat i + 1) (portOf (r .payload)) (omega arith) (omega arith) (inr (inl (refl, refl, omega arith))) in
+      let gateway = at (seat i + 2) (gatewayOf (r .payload)) (omega arith) (omega arith) (inr (inr (inl (refl, refl, omega arith)))) in record {
+        inPool = l;
+        used = omega (arith, kind, kind-known (r .payload));
+        kindKnown = omega (arith, kind, kind-known (r .payload));
+        hopThere = (λ x. hopFrom (kind x) (port x) (gateway x)) ∙ hop-back (r .payload);
+        addressThere = at (seat i + 3) (r .prefix .address) (omega arith) (omega arith) (inr (inr (inr (inl (refl, refl, omega arith)))));
+        lengthThere = at (seat i + 3 + 1) (r .prefix .length) (omega arith) (omega arith) (inr (inr (inr (inr (inl (refl, refl, omega arith))))));
+      }
+
+  pub next-written : nextAt (writes (routeWrites i r n ++ more) ws) i ≡ n
+  next-written = at (seat i + 5) n (omega arith) (omega arith) (inr (inr (inr (inr (inr (inl (refl, refl, tt)))))))
+
+-- ---- the tree of a state that has routes
+
+pub record Stands (ws : List ℕ) (s : State Hop) (t : Seated) : Type 0 where
+  pub held : Holds (s .capacity) ws (word ws 2) t
+  pub good : Good 32 (bare t)
+  pub table : routes (bare t) ≡ s .routes
+  pub routesApart : Distinct (routePlaces t)
+  pub innersApart : Distinct (innerPlaces t)
+  pub routesUsed : (i : ℕ) → i < s .capacity → 1 ≤ kindAt ws i → Among i (routePlaces t)
+  pub innersUsed : (j : ℕ) → j < s .capacity → 1 ≤ markAt (s .capacity) ws j → Among j (innerPlaces t)
+
+pub stands : (ws : List ℕ) (s : State Hop) (e : Encodes ws s) (t : Seated) → e .tree ≡ some t → Stands ws s t
+stands ws s e t is =
+    let h : Holds (s .capacity) ws (word ws 2) t = subst (λ (x : Root ℕ Seat). HoldsRoot (s .capacity) ws (word ws 2) x) is (e .holds) in
+    let g : Good 32 (bare t) = subst (λ (x : Root ℕ Seat). RootGood 32 (bareRoot x)) is (e .good) in record {
+      held = h;
+      good = g;
+      table = subst (λ (x : Root ℕ Seat). rootRoutes (bareRoot x) ≡ s .routes) is (e .routesThere);
+      routesApart = routes-distinct (s .capacity) ws (word ws 2) t h g;
+      innersApart = inners-distinct (s .capacity) ws (word ws 2) t h g;
+      routesUsed = λ i l u. subst (λ (x : Root ℕ Seat). Among i (routesUsed x)) is (e .routePlacesUsed i l u);
+      innersUsed = λ j l u. subst (λ (x : Root ℕ Seat). Among j (innersUsed x)) is (e .innerPlacesUsed j l u);
+    }

@@ -1,0 +1,47 @@
+use mathlib.Core.Path.{subst}
+use native.Mathlib.Omega.{arith}
+use borrow.Author.Needs.{needs}
+use Rattle.edit.specs.Planned.{HeldRight}
+use Rattle.edit.proofs.Changed.{swap-done, held-not}
+use Rattle.edit.proofs.change.swap.Statement.{statement}
+use Rattle.edit.proofs.change.swap.Tie as tie
+
+held-at-requires : tie.Need-held-at-requires
+held-at-requires c κs = search needs
+
+enum-known-place : tie.Need-enum-known-place
+enum-known-place c = search needs
+
+swap-hop-requires : tie.Need-swap-hop-requires
+swap-hop-requires c κs =
+    let u = c .before .before .before .before .before .before .before .before .pre .0 in
+    let v = subst (HeldRight _ _ _) (c .before .before .place .given .1) (c .before .before .before .before .held-at .ensures) .inPool in
+    (omega (arith, u .1, v .1), omega (arith, u .0, v .1))
+
+enum-told : tie.Need-enum-told
+enum-told c = search needs
+
+same-length : tie.Need-same-length
+same-length c = search needs
+
+returns : tie.Need-returns
+returns c = λ s p. swap-done _ _ _ s p _ _ _ _ (subst (HeldRight _ _ _) (c .before .before .before .before .before .place .given .1) (c .before .before .before .before .before .before .before .held-at .ensures)) (c .before .before .swap-hop .ensures)
+
+same-length-2 : tie.Need-same-length-2
+same-length-2 c = search needs
+
+returns-2 : tie.Need-returns-2
+returns-2 c = λ s p. absurd (held-not _ _ _ s p (subst (HeldRight _ _ _) (c .enum-told .given .1) (c .before .before .held-at .ensures)))
+
+pub swap-spec : {M : Type 1} → statement M
+swap-spec =
+    tie.close
+    (tie.spec
+    held-at-requires
+    enum-known-place
+    swap-hop-requires
+    enum-told
+    same-length
+    returns
+    same-length-2
+    returns-2)

@@ -1,0 +1,84 @@
+ghost use mathlib.Core.Path.{_≡_};
+ghost use mathlib.Core.List.{List};
+ghost use Rattle.model.specs.Routes.{insert, remove, replace};
+ghost use Rattle.model.specs.Ipv4.{Hop};
+ghost use Rattle.model.specs.State.{State};
+ghost use Rattle.model.specs.Call.{withTrial};
+ghost use Rattle.route.specs.Means.{prefixOf, hopOf, routeOf};
+ghost use Rattle.search.specs.Fit.{Fit};
+ghost use Rattle.edit.specs.Encodes.{Encodes, ToPut, ToTake};
+use super::free::free_inner;
+use super::free::free_route;
+use super::plan::HeldAt;
+use super::plan::PutPlan;
+use super::plan::TakePlan;
+use super::plan::held_at;
+use super::plan::plan_put;
+use super::plan::plan_take;
+use super::put::put_first;
+use super::put::put_hung;
+use super::put::put_joined;
+use super::take::swap_hop;
+use super::take::take_last;
+use super::take::take_leaf;
+use super::take::take_link;
+use route::Prefix;
+use route::Route;
+
+// A route more, where its prefix is not there and there is room.
+pub fn put_in(pool: &mut [u32], capacity: usize, route: Route)
+    requires { ⌜ Fit capacity (now pool) ⌝ }
+    requires { ⌜ ((s : State Hop) × ToPut capacity (now pool) (routeOf route) s) ⌝ }
+    ensures { λ _. ⌜ ((s : State Hop) → ToPut capacity (now (pool .entry)) (routeOf route) s → Encodes (now (pool .exit)) (withTrial s (insert (routeOf route) (s .routes)) (s .trial))) ⌝ }
+{
+    let place = free_route(pool, capacity);
+    let prefix = route.prefix;
+    match plan_put(pool, capacity, prefix) {
+        PutPlan::First => {
+            put_first(pool, place, route);
+        }
+        PutPlan::Hang(cell) => {
+            put_hung(pool, place, route, cell);
+        }
+        PutPlan::Join(cell, index) => {
+            let inner = free_inner(pool, capacity);
+            put_joined(pool, capacity, place, inner, route, cell, index);
+        }
+    }
+}
+
+// A route less.
+pub fn take_out(pool: &mut [u32], capacity: usize, prefix: Prefix)
+    requires { ⌜ Fit capacity (now pool) ⌝ }
+    requires { ⌜ ((s : State Hop) × ToTake capacity (now pool) (prefixOf prefix) s) ⌝ }
+    ensures { λ _. ⌜ ((s : State Hop) → ToTake capacity (now (pool .entry)) (prefixOf prefix) s → Encodes (now (pool .exit)) (withTrial s (remove (prefixOf prefix) (s .routes)) (s .trial))) ⌝ }
+{
+    match plan_take(pool, capacity, prefix) {
+        TakePlan::Link(cell, place) => {
+            take_link(pool, cell, place);
+        }
+        TakePlan::Leaf(up, inner, link, place) => {
+            take_leaf(pool, capacity, up, inner, link, place);
+        }
+        TakePlan::Last(place) => {
+            take_last(pool, place);
+        }
+        TakePlan::Nowhere => {}
+    }
+}
+
+// Another hop for a route.
+pub fn swap(pool: &mut [u32], capacity: usize, route: Route)
+    requires { ⌜ Fit capacity (now pool) ⌝ }
+    requires { ⌜ ((s : State Hop) × ToTake capacity (now pool) (prefixOf (route .prefix)) s) ⌝ }
+    ensures { λ _. ⌜ ((s : State Hop) → ToTake capacity (now (pool .entry)) (prefixOf (route .prefix)) s → Encodes (now (pool .exit)) (withTrial s (replace (routeOf route) (s .routes)) (s .trial))) ⌝ }
+{
+    let prefix = route.prefix;
+    let hop = route.hop;
+    match held_at(pool, capacity, prefix) {
+        HeldAt::At(_, place) => {
+            swap_hop(pool, place, hop);
+        }
+        HeldAt::Nowhere => {}
+    }
+}
