@@ -1,0 +1,21 @@
+-- A change recorded, and the hop that a prefix had before it.
+use Prim.Native.Nat.{ℕ}
+use mathlib.Core.Path.{_≡_}
+use mathlib.Core.List.{List}
+use mathlib.Core.Option.{Option, none, some}
+use Rattle.model.specs.Prefix.{Prefix}
+use Rattle.model.specs.Routes.{Route, find}
+use Rattle.model.specs.Ipv4.{Hop}
+use Rattle.model.specs.State.{State}
+use Rattle.pool.specs.Layout.{trialIn, standingIn}
+use Rattle.pool.specs.Means.{Means}
+use Rattle.edit.specs.Writes.{writes, recordWrites}
+
+-- "In a trial each accepted add, delete and hop change is recorded": without one no word is written.
+pub record Noted (c action : ℕ) (p : Prefix) (old new : Hop) (ws zs : List ℕ) : Type 0 where
+  pub inTrial : trialIn ws ≡ 1 → zs ≡ writes (recordWrites c (standingIn ws) action p old new) ws
+  pub without : (trialIn ws ≡ 1 → ⊥) → zs ≡ ws
+
+-- The hop of the route that has this prefix, where there is one.
+abbrev pub HeldHop : ℕ → List ℕ → Prefix → Hop → Type 0
+HeldHop c ws p h = (s : State Hop) → Means ws s → s .capacity ≡ c → (r : Route Hop) → find p (s .routes) ≡ some r → h ≡ r .payload

@@ -1,0 +1,51 @@
+ghost use Rattle.model.specs.Ipv4.{Hop};
+ghost use Rattle.model.specs.State.{State};
+ghost use Rattle.model.specs.Call as call;
+ghost use Rattle.search.specs.Fit.{Fit};
+ghost use Rattle.edit.specs.Encodes.{Encodes};
+ghost use Rattle.apply.specs.Does.{Accepts, Accepted, Does};
+use route::Route;
+
+// The newest recorded change undone in the table; its record still stands.
+fn take_back(pool: &mut [u32], capacity: usize)
+    requires { ⌜ Fit capacity (now pool) ⌝ }
+    requires { ⌜ Accepted capacity call.stepBack (now pool) ⌝ }
+    ensures { λ _. ⌜ ((s : State Hop) → Accepts capacity call.stepBack (now (pool .entry)) s → Encodes (now (pool .exit)) (call.withTrial s (call.steppedBack s (s .trial) .routes) (s .trial))) ⌝ }
+{
+    let standing = pool[4];
+    let at = pool::slot(capacity, pool::wide(standing - 1));
+    let action = pool[at];
+    let prefix = pool::prefix_at(pool, at + 1);
+    if action == 1 {
+        edit::take_out(pool, capacity, prefix);
+        return;
+    }
+    let hop = pool::hop_at(pool, at + 3);
+    if action == 2 {
+        edit::put_in(pool, capacity, Route { prefix, hop });
+        return;
+    }
+    edit::swap(pool, capacity, Route { prefix, hop });
+}
+
+// Take back the newest recorded change; the trial stays open.
+pub fn step_back(pool: &mut [u32], capacity: usize)
+    requires { ⌜ Fit capacity (now pool) ⌝ }
+    requires { ⌜ Accepted capacity call.stepBack (now pool) ⌝ }
+    ensures { λ _. ⌜ Does capacity call.stepBack (now (pool .entry)) (now (pool .exit)) ⌝ }
+{
+    take_back(pool, capacity);
+    edit::strike(pool);
+}
+
+// Take back all of them, newest first, and close the trial.
+pub fn back_out(pool: &mut [u32], capacity: usize)
+    requires { ⌜ Fit capacity (now pool) ⌝ }
+    requires { ⌜ Accepted capacity call.backOut (now pool) ⌝ }
+    ensures { λ _. ⌜ Does capacity call.backOut (now (pool .entry)) (now (pool .exit)) ⌝ }
+{
+    while pool[4] != 0 {
+        step_back(pool, capacity);
+    }
+    edit::write_head(pool, 0, 0);
+}
