@@ -1,7 +1,18 @@
 // The public calls: each tests, then reads or changes the pool. None asks anything of its caller.
+mod begin;
+mod change;
+mod may;
 mod own;
 mod read;
 
+pub use begin::fresh;
+pub use change::add;
+pub use change::back_out;
+pub use change::change_hop;
+pub use change::delete;
+pub use change::keep_trial;
+pub use change::open_trial;
+pub use change::step_back;
 pub use read::first;
 pub use read::lookup;
 pub use read::mask_length;

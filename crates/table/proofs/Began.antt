@@ -1,0 +1,130 @@
+-- A fresh table: what the cleared words mean, and the promise of `fresh`.
+use Prim.Native.Nat.{ℕ, _+_, _-_, _≤_, _<_}
+use mathlib.Core.Path.{_≡_, refl, sym, ap, subst, _∙_}
+use mathlib.Core.Bool.{true, false}
+use mathlib.Core.List.{List, _++_}
+use mathlib.Core.Option.{none}
+use native.Mathlib.Omega.{arith}
+use borrow.Author.Tests.{eq-eqb, ne-eqb, lt-ltb, le-ltb}
+use lib.Dec.{eqb, ltb}
+use lib.ListN.{length, getD, set, drop, take, replicate, length-set, length-replicate, getD-replicate, List·getD-append}
+use lib.Seq.{length-take-le, length-front, getD-set-same, getD-set-other, getD-append-add, getD-drop}
+use Rattle.model.specs.Ipv4.{Hop}
+use Rattle.model.specs.State.{Meaning, empty}
+use Rattle.model.specs.Call.{fresh, nothing, number}
+use Rattle.model.specs.Lawful.{Lawful}
+use Rattle.model.proofs.Lawful.{empty-lawful}
+use Rattle.pool.specs.Layout.{word, rules, size, seat, joint}
+use Rattle.pool.specs.Means.{Means}
+use Rattle.table.specs.Promise.{Meant, Promise}
+use Rattle.table.proofs.Promises.{refused-value, refused-next}
+
+-- ---- the words after a fresh table is made: the own words cleared, the capacity in front
+
+abbrev pub begun : List ℕ → ℕ → ℕ → List ℕ
+begun ws n c = set (replicate n 0 ++ drop n ws) 0 c
+
+module _ (ws : List ℕ) (n c : ℕ) (fits : n ≤ length ws) where
+  cleared-long : length (replicate n 0 ++ drop n ws) ≡ length ws
+  cleared-long = length-front ws (replicate n 0) n (length-replicate {A = ℕ} n 0 ∙ sym (length-take-le n ws fits))
+
+  pub begun-long : length (begun ws n c) ≡ length ws
+  begun-long = length-set (replicate n 0 ++ drop n ws) 0 c ∙ cleared-long
+
+  begun-first : 1 ≤ n → word (begun ws n c) 0 ≡ c
+  begun-first h = getD-set-same (replicate n 0 ++ drop n ws) 0 c 0 (omega (arith, cleared-long))
+
+  -- every other own word is 0
+  begun-zero : (i : ℕ) → 1 ≤ i → i < n → word (begun ws n c) i ≡ 0
+  begun-zero i a b =
+      getD-set-other (replicate n 0 ++ drop n ws) 0 i c 0 (λ e. omega (arith, e))
+      ∙ List·getD-append (replicate n 0) (drop n ws) 0 i (omega (arith, length-replicate {A = ℕ} n 0))
+      ∙ getD-replicate n i 0 0 b
+
+  -- and the words past them are as before
+  begun-past : (i : ℕ) → 1 ≤ n → n ≤ i → word (begun ws n c) i ≡ word ws i
+  begun-past i a b =
+      let e : length (replicate {A = ℕ} n 0) + (i - n) ≡ i = omega (arith, length-replicate {A = ℕ} n 0) in
+      let f : n + (i - n) ≡ i = omega arith in
+      getD-set-other (replicate n 0 ++ drop n ws) 0 i c 0 (λ z. omega (arith, z))
+      ∙ ap (λ (k : ℕ). getD (replicate n 0 ++ drop n ws) k 0) (sym e)
+      ∙ getD-append-add (replicate n 0) (drop n ws) (i - n) 0
+      ∙ getD-drop n ws (i - n) 0
+      ∙ ap (λ (k : ℕ). getD ws k 0) f
+
+-- ---- they mean the empty table
+
+module _ (ws : List ℕ) (c : ℕ) (fits : size c ≤ length ws) where
+  zeroed-word : (i : ℕ) → 1 ≤ i → i < size c → word (begun ws (size c) c) i ≡ 0
+  zeroed-word i a b = begun-zero ws (size c) c fits i a b
+
+  pub begun-means : Lawful rules (empty c) → Means (begun ws (size c) c) (empty c)
+  begun-means l = record {
+    tree = none;
+    longEnough = omega (arith, begun-long ws (size c) c fits);
+    lawful = l;
+    capacityThere = begun-first ws (size c) c fits (omega arith);
+    countThere = zeroed-word 1 (omega arith) (omega arith);
+    trialThere = (zeroed-word 3 (omega arith) (omega arith), zeroed-word 4 (omega arith) (omega arith));
+    holds = zeroed-word 2 (omega arith) (omega arith);
+    obeys = tt;
+    routesThere = refl;
+    routePlacesUsed = λ i h k. omega (arith, zeroed-word (seat i) (omega arith) (omega arith));
+    innerPlacesUsed = λ j h k. omega (arith, zeroed-word (joint c j) (omega arith) (omega arith));
+  }
+
+-- ---- the promise: fresh asks nothing of the words, so its number is the same for every meaning
+
+-- a refusal
+refused-fresh : (ws : List ℕ) (c n k : ℕ) → ((m : Meaning Hop) → number rules (fresh c n) m ≡ k) → (k ≡ 0 → ⊥) → Promise (size c) (fresh c n) ws ws k nothing
+refused-fresh ws c n k e z = record {
+  numberIs = λ m h. sym (e m);
+  valueIs = λ m h. sym (refused-value (fresh c n) m k (e m) z);
+  meaningIs = λ m h. subst (Meant ws) (sym (refused-next (fresh c n) m k (e m) z)) h;
+  refusalKeeps = λ q. refl;
+  long = refl;
+  pastKeeps = λ i q. refl;
+}
+
+pub no-capacity : (ws : List ℕ) (c n : ℕ) → c ≡ 0 → Promise (size c) (fresh c n) ws ws 1 nothing
+no-capacity ws c n h = refused-fresh ws c n 1 (λ m. rw (eq-eqb c 0 h)) (λ z. omega arith)
+
+pub past-limit : (ws : List ℕ) (c n : ℕ) → 96 < c → Promise (size c) (fresh c n) ws ws 1 nothing
+past-limit ws c n h =
+    let a : eqb c 0 ≡ false = ne-eqb c 0 (λ z. omega arith) in
+    let b : ltb 96 c ≡ true = lt-ltb 96 c h in
+    refused-fresh ws c n 1 (λ m. rw (a, b)) (λ z. omega arith)
+
+pub short-buffer : (ws : List ℕ) (c n : ℕ) → (c ≡ 0 → ⊥) → c ≤ 96 → n < size c → Promise (size c) (fresh c n) ws ws 2 nothing
+short-buffer ws c n h k s =
+    let a : eqb c 0 ≡ false = ne-eqb c 0 h in
+    let b : ltb 96 c ≡ false = le-ltb 96 c k in
+    let d : ltb n (size c) ≡ true = lt-ltb n (size c) s in
+    refused-fresh ws c n 2 (λ m. rw (a, b, d)) (λ z. omega arith)
+
+pub begins : (ws : List ℕ) (c n k : ℕ) → (c ≡ 0 → ⊥) → c ≤ 96 → n ≡ length ws → k ≡ size c → k ≤ n → Promise (size c) (fresh c n) ws (begun ws k c) 0 nothing
+begins ws c n k h r e f g = rw f (record {
+  numberIs = λ m q. sym (zeroed m);
+  valueIs = λ m q. rw (zeroed m);
+  meaningIs = λ m q. rw (zeroed m) (begun-means ws c fits (empty-lawful rules c n m (rw (zeroed m))));
+  refusalKeeps = λ q. absurd (q refl);
+  long = begun-long ws (size c) c fits;
+  pastKeeps = λ i q. begun-past ws (size c) c fits i (omega arith) q;
+})
+  where
+    fits : size c ≤ length ws
+    fits = omega arith
+
+    zeroed : (m : Meaning Hop) → number rules (fresh c n) m ≡ 0
+    zeroed m =
+        let a : eqb c 0 ≡ false = ne-eqb c 0 h in
+        let b : ltb 96 c ≡ false = le-ltb 96 c r in
+        let d : ltb n (size c) ≡ false = le-ltb n (size c) (omega arith) in
+        rw (a, b, d)
+
+-- what `clear` left of the own words, with the others behind them
+pub begins-cleared : (ws zs : List ℕ) (c k : ℕ) → (c ≡ 0 → ⊥) → c ≤ 96 → k ≡ size c → k ≤ length ws → zs ≡ replicate (length (take k ws)) 0
+    → Promise (size c) (fresh c (length ws)) ws (set (zs ++ drop k ws) 0 c) 0 nothing
+begins-cleared ws zs c k h r f g e =
+    subst (λ (l : List ℕ). Promise (size c) (fresh c (length ws)) ws (set (l ++ drop k ws) 0 c) 0 nothing) (sym (e ∙ ap (λ (n : ℕ). replicate n 0) (length-take-le k ws g)))
+    (begins ws c (length ws) k h r refl f g)

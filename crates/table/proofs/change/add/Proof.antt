@@ -1,0 +1,58 @@
+use mathlib.Core.Path.{refl, sym, subst, _∙_}
+use native.Mathlib.Omega.{arith}
+use borrow.Author.Needs.{needs}
+use Rattle.model.specs.Call.{add}
+use Rattle.route.specs.Means.{routeOf}
+use Rattle.table.specs.May.{MayRight}
+use Rattle.table.proofs.Changes.{goes-small, goes-fit, goes-in, goes-accepted, goes, refused-by}
+use Rattle.table.proofs.change.add.Statement.{statement}
+use Rattle.table.proofs.change.add.Tie as tie
+
+may-add-requires : tie.Need-may-add-requires
+may-add-requires c κs = search needs
+
+enum-known-capacity : tie.Need-enum-known-capacity
+enum-known-capacity c = search needs
+
+size-of-requires : tie.Need-size-of-requires
+size-of-requires c κs = goes-small (add (routeOf (c .before .before .before .before .before .before .args .route))) (c .before .before .before .before .before .before .args .pool .now) _ (subst (MayRight (add (routeOf (c .before .before .before .before .before .before .args .route))) (c .before .before .before .before .before .before .args .pool .now)) (c .before .capacity .given .1) (c .before .before .before .may-add .ensures))
+
+slice-relend-prefix-add : tie.Need-slice-relend-prefix-add
+slice-relend-prefix-add c = goes-in (add (routeOf (c .before .before .before .before .before .before .before .args .route))) (c .before .before .before .before .before .before .before .args .pool .now) _ _ (subst (MayRight (add (routeOf (c .before .before .before .before .before .before .before .args .route))) (c .before .before .before .before .before .before .before .args .pool .now)) (c .before .before .capacity .given .1) (c .before .before .before .before .may-add .ensures)) (c .size-of .ensures)
+
+slice-aggregate-add : tie.Need-slice-aggregate-add
+slice-aggregate-add c = c .before .size-of .ensures ∙ sym (goes-fit (add (routeOf (c .before .before .before .before .before .before .before .before .args .route))) (c .before .before .before .before .before .before .before .before .args .pool .now) _ _ (subst (MayRight (add (routeOf (c .before .before .before .before .before .before .before .before .args .route))) (c .before .before .before .before .before .before .before .before .args .pool .now)) (c .before .before .before .capacity .given .1) (c .before .before .before .before .before .may-add .ensures)) (c .before .size-of .ensures) .1)
+
+add-requires : tie.Need-add-requires
+add-requires c κs = (goes-fit (add (routeOf (c .before .before .before .before .before .before .before .before .args .route))) (c .before .before .before .before .before .before .before .before .args .pool .now) _ _ (subst (MayRight (add (routeOf (c .before .before .before .before .before .before .before .before .args .route))) (c .before .before .before .before .before .before .before .before .args .pool .now)) (c .before .before .before .capacity .given .1) (c .before .before .before .before .before .may-add .ensures)) (c .before .size-of .ensures), goes-accepted (add (routeOf (c .before .before .before .before .before .before .before .before .args .route))) (c .before .before .before .before .before .before .before .before .args .pool .now) _ _ (subst (MayRight (add (routeOf (c .before .before .before .before .before .before .before .before .args .route))) (c .before .before .before .before .before .before .before .before .args .pool .now)) (c .before .before .before .capacity .given .1) (c .before .before .before .before .before .may-add .ensures)) (c .before .size-of .ensures))
+
+enum-known-refusal : tie.Need-enum-known-refusal
+enum-known-refusal c = search needs
+
+same-length : tie.Need-same-length
+same-length c = search needs
+
+returns : tie.Need-returns
+returns c = goes (add (routeOf (c .before .before .before .before .before .before .before .before .before .before .before .args .route))) (c .before .before .before .before .before .before .before .before .before .before .before .args .pool .now) _ _ (subst (MayRight (add (routeOf (c .before .before .before .before .before .before .before .before .before .before .before .args .route))) (c .before .before .before .before .before .before .before .before .before .before .before .args .pool .now)) (c .before .before .before .before .before .before .capacity .given .1) (c .before .before .before .before .before .before .before .before .may-add .ensures)) (c .before .before .before .before .size-of .ensures) (c .before .before .add .last .0) (search needs) refl (c .before .before .add .ensures)
+
+same-length-2 : tie.Need-same-length-2
+same-length-2 c = search needs
+
+returns-2 : tie.Need-returns-2
+returns-2 c = refused-by _ (add (routeOf (c .before .before .before .before .before .before .args .route))) (c .before .before .before .before .before .before .args .pool .now) (c .before .refusal .given .0 .0) (subst (MayRight (add (routeOf (c .before .before .before .before .before .before .args .route))) (c .before .before .before .before .before .before .args .pool .now)) (c .before .refusal .given .1) (c .before .before .before .may-add .ensures))
+
+pub add-spec : {M : Type 1} → statement M
+add-spec =
+    tie.close
+    (tie.spec
+    may-add-requires
+    enum-known-capacity
+    size-of-requires
+    slice-relend-prefix-add
+    slice-aggregate-add
+    add-requires
+    enum-known-refusal
+    same-length
+    returns
+    same-length-2
+    returns-2)

@@ -1,0 +1,57 @@
+use mathlib.Core.Path.{refl, sym, subst, _∙_}
+use native.Mathlib.Omega.{arith}
+use borrow.Author.Needs.{needs}
+use Rattle.model.specs.Call.{keep}
+use Rattle.table.specs.May.{MayRight}
+use Rattle.table.proofs.Changes.{goes-small, goes-fit, goes-in, goes-accepted, goes, refused-by}
+use Rattle.table.proofs.change.keep_trial.Statement.{statement}
+use Rattle.table.proofs.change.keep_trial.Tie as tie
+
+may-end-requires : tie.Need-may-end-requires
+may-end-requires c κs = search needs
+
+enum-known-capacity : tie.Need-enum-known-capacity
+enum-known-capacity c = search needs
+
+size-of-requires : tie.Need-size-of-requires
+size-of-requires c κs = goes-small keep (c .before .before .before .before .before .before .args .pool .now) _ (subst (MayRight keep (c .before .before .before .before .before .before .args .pool .now)) (c .before .capacity .given .1) (c .before .before .before .may-end .ensures .0))
+
+slice-relend-prefix-keep : tie.Need-slice-relend-prefix-keep
+slice-relend-prefix-keep c = goes-in keep (c .before .before .before .before .before .before .before .args .pool .now) _ _ (subst (MayRight keep (c .before .before .before .before .before .before .before .args .pool .now)) (c .before .before .capacity .given .1) (c .before .before .before .before .may-end .ensures .0)) (c .size-of .ensures)
+
+slice-aggregate-keep : tie.Need-slice-aggregate-keep
+slice-aggregate-keep c = c .before .size-of .ensures ∙ sym (goes-fit keep (c .before .before .before .before .before .before .before .before .args .pool .now) _ _ (subst (MayRight keep (c .before .before .before .before .before .before .before .before .args .pool .now)) (c .before .before .before .capacity .given .1) (c .before .before .before .before .before .may-end .ensures .0)) (c .before .size-of .ensures) .1)
+
+keep-requires : tie.Need-keep-requires
+keep-requires c κs = (goes-fit keep (c .before .before .before .before .before .before .before .before .args .pool .now) _ _ (subst (MayRight keep (c .before .before .before .before .before .before .before .before .args .pool .now)) (c .before .before .before .capacity .given .1) (c .before .before .before .before .before .may-end .ensures .0)) (c .before .size-of .ensures), goes-accepted keep (c .before .before .before .before .before .before .before .before .args .pool .now) _ _ (subst (MayRight keep (c .before .before .before .before .before .before .before .before .args .pool .now)) (c .before .before .before .capacity .given .1) (c .before .before .before .before .before .may-end .ensures .0)) (c .before .size-of .ensures))
+
+enum-known-refusal : tie.Need-enum-known-refusal
+enum-known-refusal c = search needs
+
+same-length : tie.Need-same-length
+same-length c = search needs
+
+returns : tie.Need-returns
+returns c = goes keep (c .before .before .before .before .before .before .before .before .before .before .before .args .pool .now) _ _ (subst (MayRight keep (c .before .before .before .before .before .before .before .before .before .before .before .args .pool .now)) (c .before .before .before .before .before .before .capacity .given .1) (c .before .before .before .before .before .before .before .before .may-end .ensures .0)) (c .before .before .before .before .size-of .ensures) (c .before .before .keep .last .0) (search needs) refl (c .before .before .keep .ensures)
+
+same-length-2 : tie.Need-same-length-2
+same-length-2 c = search needs
+
+returns-2 : tie.Need-returns-2
+returns-2 c = refused-by _ keep (c .before .before .before .before .before .before .args .pool .now) (c .before .refusal .given .0 .0) (subst (MayRight keep (c .before .before .before .before .before .before .args .pool .now)) (c .before .refusal .given .1) (c .before .before .before .may-end .ensures .0))
+
+pub keep-trial-spec : {M : Type 1} → statement M
+keep-trial-spec =
+    tie.close
+    (tie.spec
+    may-end-requires
+    enum-known-capacity
+    size-of-requires
+    slice-relend-prefix-keep
+    slice-aggregate-keep
+    keep-requires
+    enum-known-refusal
+    same-length
+    returns
+    same-length-2
+    returns-2)

@@ -1,0 +1,57 @@
+use mathlib.Core.Path.{refl, sym, subst, _∙_}
+use native.Mathlib.Omega.{arith}
+use borrow.Author.Needs.{needs}
+use Rattle.model.specs.Call.{openTrial}
+use Rattle.table.specs.May.{MayRight}
+use Rattle.table.proofs.Changes.{goes-small, goes-fit, goes-in, goes-accepted, goes, refused-by}
+use Rattle.table.proofs.change.open_trial.Statement.{statement}
+use Rattle.table.proofs.change.open_trial.Tie as tie
+
+may-open-requires : tie.Need-may-open-requires
+may-open-requires c κs = search needs
+
+enum-known-capacity : tie.Need-enum-known-capacity
+enum-known-capacity c = search needs
+
+size-of-requires : tie.Need-size-of-requires
+size-of-requires c κs = goes-small openTrial (c .before .before .before .before .before .before .args .pool .now) _ (subst (MayRight openTrial (c .before .before .before .before .before .before .args .pool .now)) (c .before .capacity .given .1) (c .before .before .before .may-open .ensures))
+
+slice-relend-prefix-open : tie.Need-slice-relend-prefix-open
+slice-relend-prefix-open c = goes-in openTrial (c .before .before .before .before .before .before .before .args .pool .now) _ _ (subst (MayRight openTrial (c .before .before .before .before .before .before .before .args .pool .now)) (c .before .before .capacity .given .1) (c .before .before .before .before .may-open .ensures)) (c .size-of .ensures)
+
+slice-aggregate-open : tie.Need-slice-aggregate-open
+slice-aggregate-open c = c .before .size-of .ensures ∙ sym (goes-fit openTrial (c .before .before .before .before .before .before .before .before .args .pool .now) _ _ (subst (MayRight openTrial (c .before .before .before .before .before .before .before .before .args .pool .now)) (c .before .before .before .capacity .given .1) (c .before .before .before .before .before .may-open .ensures)) (c .before .size-of .ensures) .1)
+
+open-requires : tie.Need-open-requires
+open-requires c κs = (goes-fit openTrial (c .before .before .before .before .before .before .before .before .args .pool .now) _ _ (subst (MayRight openTrial (c .before .before .before .before .before .before .before .before .args .pool .now)) (c .before .before .before .capacity .given .1) (c .before .before .before .before .before .may-open .ensures)) (c .before .size-of .ensures), goes-accepted openTrial (c .before .before .before .before .before .before .before .before .args .pool .now) _ _ (subst (MayRight openTrial (c .before .before .before .before .before .before .before .before .args .pool .now)) (c .before .before .before .capacity .given .1) (c .before .before .before .before .before .may-open .ensures)) (c .before .size-of .ensures))
+
+enum-known-refusal : tie.Need-enum-known-refusal
+enum-known-refusal c = search needs
+
+same-length : tie.Need-same-length
+same-length c = search needs
+
+returns : tie.Need-returns
+returns c = goes openTrial (c .before .before .before .before .before .before .before .before .before .before .before .args .pool .now) _ _ (subst (MayRight openTrial (c .before .before .before .before .before .before .before .before .before .before .before .args .pool .now)) (c .before .before .before .before .before .before .capacity .given .1) (c .before .before .before .before .before .before .before .before .may-open .ensures)) (c .before .before .before .before .size-of .ensures) (c .before .before .«open» .last .0) (search needs) refl (c .before .before .«open» .ensures)
+
+same-length-2 : tie.Need-same-length-2
+same-length-2 c = search needs
+
+returns-2 : tie.Need-returns-2
+returns-2 c = refused-by _ openTrial (c .before .before .before .before .before .before .args .pool .now) (c .before .refusal .given .0 .0) (subst (MayRight openTrial (c .before .before .before .before .before .before .args .pool .now)) (c .before .refusal .given .1) (c .before .before .before .may-open .ensures))
+
+pub open-trial-spec : {M : Type 1} → statement M
+open-trial-spec =
+    tie.close
+    (tie.spec
+    may-open-requires
+    enum-known-capacity
+    size-of-requires
+    slice-relend-prefix-open
+    slice-aggregate-open
+    open-requires
+    enum-known-refusal
+    same-length
+    returns
+    same-length-2
+    returns-2)
