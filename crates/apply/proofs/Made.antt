@@ -36,12 +36,15 @@ use Rattle.apply.specs.Noted.{Noted}
 
 -- ---- an accepted call
 
+-- what the model makes of the state
+pub next-done : (c : ℕ) (call : Call Hop) (ws : List ℕ) (s : State Hop) → Accepts c call ws s → next rules call (some s) ≡ done call (some s)
+next-done c call ws s a = ap (λ (n : ℕ). cond (eqb n 0) (done call (some s)) (some s)) (a .numberIs)
+
 -- words that say the model's next state mean it: it is lawful
 pub does-of : (c : ℕ) (call : Call Hop) (ws zs : List ℕ) (s t : State Hop) → Accepts c call ws s → done call (some s) ≡ some t → Encodes zs t
     → (t : State Hop) × (next rules call (some s) ≡ some t) × Means zs t
 does-of c call ws zs s t a e k =
-    let acc : accepted rules call (some s) ≡ true = ap (λ (n : ℕ). eqb n 0) (a .numberIs) in
-    let is : next rules call (some s) ≡ some t = ap (λ (b : Bool). cond b (done call (some s)) (some s)) acc ∙ e in
+    let is : next rules call (some s) ≡ some t = next-done c call ws s a ∙ e in
     (t, is, encodes-means zs t k (subst (LawfulMeaning rules) is (next-lawful rules call (some s) (a .means .lawful))))
 
 -- none of its lines holds

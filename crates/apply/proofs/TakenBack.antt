@@ -5,7 +5,7 @@ use mathlib.Core.Bool.{true, true≢false}
 use mathlib.Core.List.{List, [], _∷_}
 use mathlib.Core.Option.{some}
 use native.Mathlib.Omega.{arith}
-use borrow.Author.Tests.{eq-eqb, ne-eqb}
+use borrow.Author.Tests.{ne-eqb}
 use lib.ListN.{length}
 use Rattle.model.specs.Prefix.{Prefix}
 use Rattle.model.specs.Routes.{Route, find, insert, remove, replace}
@@ -13,33 +13,19 @@ use Rattle.model.specs.Ipv4.{Hop}
 use Rattle.model.specs.State.{Change, added, deleted, changed, Trial, closed, opened, State, changes, undo, undoAll}
 use Rattle.model.specs.Call.{Call, backOut, stepBack, due, number, accepted, withTrial, steppedBack, done, next}
 use Rattle.model.specs.Lawful.{ChangeObeys, AllChangesObey, CanUndo, Undoable}
-use Rattle.model.proofs.Numbers.{Quiet, accepted-quiet}
+use Rattle.model.proofs.Numbers.{Quiet}
 use Rattle.model.proofs.Edits.{length-insert}
-use Rattle.model.proofs.Lawful.{there, absent, LawfulMeaning, next-lawful}
+use Rattle.model.proofs.Lawful.{there, absent}
 use Rattle.pool.specs.Layout.{word, slot, prefixAt, hopAt, standingIn, rules}
 use Rattle.pool.specs.Means.{Records, Recorded, TrialThere, Means}
 use Rattle.pool.proofs.Local.{recorded-length}
 use Rattle.search.specs.Fit.{Fit}
 use Rattle.edit.specs.Writes.{writes, headWrites}
 use Rattle.edit.specs.Encodes.{Encodes, ToPut, ToTake}
-use Rattle.edit.proofs.Encodes.{means-encodes, encodes-means}
+use Rattle.edit.proofs.Encodes.{means-encodes}
 use Rattle.edit.proofs.Trials.{strike-encodes, close-encodes}
 use Rattle.apply.specs.Does.{Accepts, Accepted, Does}
-
--- ---- an accepted call
-
-module _ (c : ℕ) (call : Call Hop) (ws : List ℕ) (s : State Hop) (a : Accepts c call ws s) where
-  -- an accepted call is the model's accepted call
-  is-accepted : accepted rules call (some s) ≡ true
-  is-accepted = eq-eqb (number rules call (some s)) 0 (a .numberIs)
-
-  -- so it does what the model says
-  next-done : next rules call (some s) ≡ done call (some s)
-  next-done = rw is-accepted
-
-  -- and leaves a lawful state
-  done-lawful : LawfulMeaning rules (done call (some s))
-  done-lawful = subst (LawfulMeaning rules) next-done (next-lawful rules call (some s) (a .means .lawful))
+use Rattle.apply.proofs.Made.{next-done, does-of, lines}
 
 -- ---- the newest change
 
@@ -79,7 +65,7 @@ newest-of c ws s x cs e m k =
 
 -- step back is accepted only where a change stands
 pub newest : (c : ℕ) (ws : List ℕ) (s : State Hop) → Accepts c stepBack ws s → Newest c ws s
-newest c ws s a = go (s .trial) refl (accepted-quiet rules stepBack (some s) (is-accepted c stepBack ws s a))
+newest c ws s a = go (s .trial) refl (lines c stepBack ws s a)
   where
     go : (t : Trial Hop) → s .trial ≡ t → Quiet (due rules stepBack (some s)) → Newest c ws s
     go closed e q = absurd (true≢false (rw e at (q .1 .0)))
@@ -219,7 +205,7 @@ step-does c ws ys zs f e s a =
     let few : suc (length (n .older)) ≤ 64 = rw (n .trialIs) at (a .means .lawful .few) in
     let struck = strike-encodes ys t (n .change) (n .older) (standingIn ys - 1) (f s a) (n .trialIs) (omega (arith, k)) (omega (arith, k, few)) in
     let there : Encodes zs (steppedBack s (s .trial)) = subst (λ (l : List ℕ). Encodes l (steppedBack s (s .trial))) (sym e) (subst (Encodes (writes ((4, standingIn ys - 1) ∷ []) ys)) (stepped-is c ws s n) struck) in
-    (steppedBack s (s .trial), next-done c stepBack ws s a, encodes-means zs (steppedBack s (s .trial)) there (done-lawful c stepBack ws s a))
+    does-of c stepBack ws zs s (steppedBack s (s .trial)) a refl there
 
 -- ---- all of them, one by one
 
@@ -234,7 +220,7 @@ pub record Going (c : ℕ) (ws : List ℕ) (s : State Hop) : Type 0 where
 
 -- at first all that stand are left
 pub going-start : (c : ℕ) (ws : List ℕ) (s : State Hop) → Accepts c backOut ws s → Going c ws s
-going-start c ws s a = go (s .trial) refl (accepted-quiet rules backOut (some s) (is-accepted c backOut ws s a))
+going-start c ws s a = go (s .trial) refl (lines c backOut ws s a)
   where
     go : (t : Trial Hop) → s .trial ≡ t → Quiet (due rules backOut (some s)) → Going c ws s
     go closed e q = absurd (true≢false (rw e at (q .1 .0)))
@@ -287,7 +273,7 @@ going-does c ws ys zs f none-left e s a = go (f s a .left) (f s a .trialIs) (f s
         let same-capacity : u .capacity ≡ s .capacity = f s a .capacityIs ∙ sym (a .capacityIs) in
         let same : withTrial u (u .routes) closed ≡ v = λ i. record { capacity = same-capacity i; routes = k i; trial = closed } in
         let there : Encodes zs v = subst (λ (l : List ℕ). Encodes l v) (sym e) (subst (Encodes (writes (headWrites 0 0) ys)) same shut) in
-        (v, next-done c backOut ws s a, encodes-means zs v there (done-lawful c backOut ws s a))
+        does-of c backOut ws zs s v a refl there
     go (x ∷ cs) is k =
         let m = standing-is ys (f s a .state) (x ∷ cs) (means-encodes ys (f s a .state) (f s a .means)) is in
         absurd (omega (arith, m, none-left))
