@@ -1,7 +1,7 @@
 -- From an accepted call to the state that the words mean after it.
-use Prim.Native.Nat.{ℕ, zero, suc, _+_, _≤_, _<_}
+use Prim.Native.Nat.{ℕ, zero, _≤_, _<_}
 use mathlib.Core.Path.{_≡_, refl, sym, ap, subst, _∙_}
-use mathlib.Core.Bool.{Bool, true, false, not, cond}
+use mathlib.Core.Bool.{false, cond}
 use mathlib.Core.List.{List, [], _∷_}
 use mathlib.Core.Option.{Option, none, some}
 use native.Mathlib.Omega.{arith}
@@ -12,13 +12,13 @@ use Rattle.model.specs.Prefix.{Prefix, wellFormed}
 use Rattle.model.specs.Routes.{Route, find, insert, remove, replace}
 use Rattle.model.specs.Ipv4.{Hop}
 use Rattle.model.specs.State.{State, Change, added, deleted, changed, Trial, closed, opened, changes, recordIn}
-use Rattle.model.specs.Call.{Call, add, delete, change, openTrial, keep, number, accepted, due, trialFull, done, next, withTrial, changeTo, deleteFrom, changeAt}
+use Rattle.model.specs.Call.{Call, add, delete, change, openTrial, keep, due, trialFull, done, next, withTrial, changeTo, deleteFrom, changeAt}
 use Rattle.model.proofs.Numbers.{Quiet, accepted-quiet}
-use Rattle.model.proofs.Tests.{both, none-not-some}
+use Rattle.model.proofs.Tests.{both}
 use Rattle.model.proofs.Lawful.{LawfulMeaning, next-lawful, there, absent}
 use Rattle.model.proofs.Routes.{find-held}
 use Rattle.patricia.specs.Tree.{Root, rootRoutes}
-use Rattle.pool.specs.Layout.{rules, rootIn, trialIn, standingIn, routeAt, hopAt, seat}
+use Rattle.pool.specs.Layout.{rules, rootIn, trialIn, standingIn, hopAt, seat}
 use Rattle.pool.specs.Holds.{Seat, bareRoot, Holds, HoldsRoot, routePlaces}
 use Rattle.pool.specs.declared.link.Place.{Place}
 use Rattle.pool.specs.Means.{Means, TrialThere}

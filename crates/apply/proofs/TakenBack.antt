@@ -11,7 +11,7 @@ use Rattle.model.specs.Prefix.{Prefix}
 use Rattle.model.specs.Routes.{Route, find, insert, remove, replace}
 use Rattle.model.specs.Ipv4.{Hop}
 use Rattle.model.specs.State.{Change, added, deleted, changed, Trial, closed, opened, State, changes, undo, undoAll}
-use Rattle.model.specs.Call.{Call, backOut, stepBack, due, number, accepted, withTrial, steppedBack, done, next}
+use Rattle.model.specs.Call.{backOut, stepBack, due, withTrial, steppedBack, next}
 use Rattle.model.specs.Lawful.{ChangeObeys, AllChangesObey, CanUndo, Undoable}
 use Rattle.model.proofs.Numbers.{Quiet}
 use Rattle.model.proofs.Edits.{length-insert}

@@ -2,7 +2,7 @@
 use Prim.Native.Nat.{ℕ}
 use mathlib.Core.Path.{_≡_}
 use mathlib.Core.List.{List}
-use mathlib.Core.Option.{Option, none, some}
+use mathlib.Core.Option.{some}
 use Rattle.model.specs.Prefix.{Prefix}
 use Rattle.model.specs.Routes.{Route, find}
 use Rattle.model.specs.Ipv4.{Hop}

@@ -1,8 +1,8 @@
 -- The laws of first bits and single bits, over any width. What stands above uses these and leaves the two definitions shut.
-use Prim.Native.Nat.{ℕ, zero, suc, _+_, _-_, _*_, _/_, _%_, _^_, _≤_, _<_}
-use mathlib.Core.Path.{_≡_, refl, sym, ap, _∙_, subst}
+use Prim.Native.Nat.{ℕ, suc, _+_, _-_, _*_, _/_, _%_, _^_, _≤_, _<_}
+use mathlib.Core.Path.{_≡_, sym, ap, _∙_, subst}
 use mathlib.Core.Logic.{_⊎_, inl, inr}
-use native.Mathlib.Nat.{div-one, div-eq-of-lt, sub-self, suc-sub-suc, mod-lt, pow-zero, div-add-mod', mod-eq-of-lt, add-sub-of-le, sub-zero, zero-mod, eq-of-mul-eq-mul-right, le-of-lt, le-step}
+use native.Mathlib.Nat.{div-one, div-eq-of-lt, sub-self, suc-sub-suc, div-add-mod', add-sub-of-le, sub-zero, zero-mod, eq-of-mul-eq-mul-right, le-of-lt, le-step}
 use native.Mathlib.Omega.{arith}
 use borrow.Author.Tests.{eqb-true, eq-eqb}
 use mathlib.Core.Bool.{true}

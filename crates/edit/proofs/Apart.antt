@@ -1,9 +1,9 @@
 -- The places of a part and those of the way to it are not the same, since no place stands twice in a tree.
-use Prim.Native.Nat.{ℕ, zero, suc, _+_, _*_, _≤_, _<_}
-use mathlib.Core.Path.{_≡_, refl, sym, ap, subst, _∙_}
+use Prim.Native.Nat.{ℕ, _+_}
+use mathlib.Core.Path.{refl, subst}
 use mathlib.Core.List.{List, [], _∷_, _++_}
 use mathlib.Core.Logic.{_⊎_, inl, inr, ⊎-elim}
-use Rattle.patricia.specs.Tree.{Tree, leaf, node}
+use Rattle.patricia.specs.Tree.{node}
 use Rattle.patricia.specs.Way.{Step, wentLeft, wentRight, plug}
 use Rattle.pool.specs.Holds.{Seat, Seated, routePlaces, innerPlaces}
 use Rattle.pool.specs.Means.{Among}

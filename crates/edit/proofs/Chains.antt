@@ -1,17 +1,17 @@
 -- The routes of one address: a chain as its first routes and the rest, and what a write to the cell between them leaves.
-use Prim.Native.Nat.{ℕ, zero, suc, _+_, _*_, _≤_, _<_}
+use Prim.Native.Nat.{ℕ, _+_, _≤_}
 use mathlib.Core.Path.{_≡_, refl, sym, ap, subst, _∙_}
 use mathlib.Core.List.{List, [], _∷_, _++_}
-use mathlib.Core.Logic.{_⊎_, inl, inr, ⊎-elim}
+use mathlib.Core.Logic.{inl, inr}
 use native.Mathlib.Omega.{arith}
-use Rattle.patricia.specs.Tree.{Entry, Tree, leaf, node}
-use Rattle.pool.specs.Layout.{word, seat, nextAt}
+use Rattle.patricia.specs.Tree.{Entry}
+use Rattle.pool.specs.Layout.{word, seat}
 use Rattle.pool.specs.Link.{toRoute}
 use Rattle.pool.specs.Holds.{Seat, InPlace, Chain, chainPlaces}
 use Rattle.pool.specs.Means.{Among}
 use Rattle.pool.proofs.Distinct.{Distinct}
 use Rattle.edit.specs.Cells.{endCell}
-use Rattle.pool.proofs.Frame.{RouteSame, hop-same, chain-frame, among-append, append-among}
+use Rattle.pool.proofs.Frame.{RouteSame, hop-same}
 
 -- these routes stand in a row from a cell on
 abbrev pub ChainTo : ℕ → List ℕ → ℕ → ℕ → List (Entry Seat) → Type 0

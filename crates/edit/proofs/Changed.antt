@@ -1,10 +1,9 @@
 -- From a plan and its row of writes to the state that the words then say.
-use Prim.Native.Nat.{ℕ, zero, suc, _+_, _*_, _≤_, _<_}
+use Prim.Native.Nat.{ℕ, _≤_, _<_}
 use mathlib.Core.Path.{_≡_, refl, sym, ap, subst, _∙_}
-use mathlib.Core.List.{List, [], _∷_, _++_}
-use mathlib.Core.Option.{Option, none, some}
+use mathlib.Core.List.{List, []}
+use mathlib.Core.Option.{none, some}
 use native.Mathlib.Omega.{arith}
-use lib.ListN.{length}
 use Rattle.bits.proofs.Part.{part-apart}
 use Rattle.model.specs.Prefix.{Prefix}
 use Rattle.model.specs.Routes.{Route, find, insert, remove, replace}
@@ -13,14 +12,12 @@ use Rattle.model.specs.State.{State}
 use Rattle.model.specs.Call.{withTrial}
 use Rattle.model.proofs.Tests.{none-not-some}
 use Rattle.model.proofs.Edits.{length-remove}
-use Rattle.patricia.specs.Tree.{Entry, leaf, Root, routes, rootRoutes}
-use Rattle.patricia.specs.Way.{Step, plug}
+use Rattle.patricia.specs.Tree.{Root, routes, rootRoutes}
 use Rattle.patricia.proofs.Find.{reached}
-use Rattle.pool.specs.Layout.{word, size, seat, rootIn, countIn}
+use Rattle.pool.specs.Layout.{rootIn, countIn}
 use Rattle.pool.specs.declared.link.Place.{Place}
-use Rattle.pool.specs.Holds.{Seat, Seated, bare, bareRoot, Holds, HoldsRoot}
-use Rattle.edit.specs.Cells.{cellOf, placeOf, siblingLink}
-use Rattle.edit.specs.Writes.{Write, writes, firstWrites, hangWrites, joinWrites, linkWrites, dropWrites, lastWrites, hopWrites}
+use Rattle.pool.specs.Holds.{Seat, Seated, bare, bareRoot, HoldsRoot}
+use Rattle.edit.specs.Writes.{writes, firstWrites, hangWrites, joinWrites, linkWrites, dropWrites, lastWrites, hopWrites}
 use Rattle.edit.specs.Plan.{PutRight, JoinsAt, HeldThere, TakenAt}
 use Rattle.edit.specs.Planned.{HeldRight, TakeRight}
 use Rattle.edit.specs.Free.{FreeRoute, FreeInner, RouteSpare, InnerSpare}

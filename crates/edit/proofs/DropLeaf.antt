@@ -1,9 +1,9 @@
 -- The last route of an address, taken out: its leaf goes with its inner place, and the sibling takes their place. The last route of the table leaves none.
-use Prim.Native.Nat.{ℕ, zero, suc, _+_, _-_, _*_, _≤_, _<_}
+use Prim.Native.Nat.{ℕ, _+_, _-_, _≤_, _<_}
 use mathlib.Core.Path.{_≡_, refl, sym, ap, subst, _∙_}
 use mathlib.Core.List.{List, [], _∷_, _++_}
 use mathlib.Core.Logic.{_⊎_, inl, inr, ⊎-elim}
-use mathlib.Core.Option.{Option, none, some}
+use mathlib.Core.Option.{none, some}
 use native.Mathlib.Omega.{arith}
 use borrow.Author.Tests.{eq-eqb}
 use lib.ListN.{length}
@@ -14,25 +14,25 @@ use Rattle.model.specs.Ipv4.{Hop}
 use Rattle.model.specs.State.{State, changes}
 use Rattle.model.specs.Call.{withTrial}
 use Rattle.model.proofs.Edits.{length-remove}
-use Rattle.patricia.specs.Tree.{Entry, Tree, leaf, node, Root, routes, rootRoutes}
+use Rattle.patricia.specs.Tree.{Entry, leaf, routes, rootRoutes}
 use Rattle.patricia.specs.Way.{Step, wentLeft, wentRight, plug}
-use Rattle.patricia.proofs.Form.{Good, RootGood}
+use Rattle.patricia.proofs.Form.{RootGood}
 use Rattle.patricia.proofs.Take.{unhang, leafOf, takeOut, take-good, take-routes}
 use Rattle.patricia.proofs.Zip.{Follows, plugRoot, take-plug}
-use Rattle.pool.specs.Layout.{word, size, seat, joint, kindAt, nextAt, markAt, leftAt, rightAt}
-use Rattle.pool.specs.Holds.{Seat, Seated, bare, bareRoot, Chain, Holds, routePlaces, innerPlaces}
+use Rattle.pool.specs.Layout.{word, seat, joint, kindAt, markAt}
+use Rattle.pool.specs.Holds.{Seat, Seated, bare, Holds, routePlaces, innerPlaces}
 use Rattle.pool.specs.Means.{Among}
 use Rattle.pool.proofs.Distinct.{Distinct}
 use Rattle.pool.proofs.Frame.{RouteSame, InnerSame, holds-frame, among-append, append-among, routes-in-pool, inners-in-pool}
 use Rattle.edit.specs.Cells.{cellOf, placeOf, sibling, siblingLink}
-use Rattle.edit.specs.Writes.{Write, writes, lastWrites, dropWrites}
+use Rattle.edit.specs.Writes.{writes, lastWrites, dropWrites}
 use Rattle.edit.proofs.Way.{bareWay, bare-plug, HoldsWay, way-plug, plug-way, wayRoutes, wayInners, routes-plug, plug-routes, inners-plug, plug-inners, InnerBut, inner-whole, way-frame}
 use Rattle.edit.proofs.Apart.{Asunder, asunder, routes-apart, inners-apart}
 use Rattle.edit.proofs.Chains.{route-whole}
 use Rattle.edit.proofs.Join.{cell-owner}
-use Rattle.edit.proofs.Rehang.{leaf-chain, cell-range}
-use Rattle.edit.proofs.Writes.{Off, word-off, word-on}
-use Rattle.edit.proofs.Spared.{Cell, Clear, way-cell, cell-clear, seats-apart, joints-apart, route-spared, inner-spared, aside}
+use Rattle.edit.proofs.Rehang.{cell-range}
+use Rattle.edit.proofs.Writes.{word-off, word-on}
+use Rattle.edit.proofs.Spared.{Clear, way-cell, cell-clear, route-spared, inner-spared, aside}
 use Rattle.edit.proofs.Stands.{follows-bare, Stands}
 use Rattle.edit.specs.Encodes.{Encodes}
 use Rattle.edit.proofs.Encodes.{encodes-edit}

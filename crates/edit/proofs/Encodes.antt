@@ -1,19 +1,18 @@
 -- The words say a state, whether or not its changes can be taken back: what an edit starts from and ends in. With a lawful state it is a meaning.
-use Prim.Native.Nat.{ℕ, zero, suc, _+_, _*_, _≤_, _<_}
-use mathlib.Core.Path.{_≡_, refl, sym, ap, subst, _∙_}
-use mathlib.Core.List.{List, [], _∷_, _++_}
-use mathlib.Core.Option.{Option, none, some}
+use Prim.Native.Nat.{ℕ, _≤_, _<_}
+use mathlib.Core.Path.{_≡_, sym, subst, _∙_}
+use mathlib.Core.List.{List}
 use native.Mathlib.Nat.{le-trans}
 use native.Mathlib.Omega.{arith}
 use lib.ListN.{length}
 use Rattle.model.specs.Routes.{Route}
 use Rattle.model.specs.Ipv4.{Hop}
-use Rattle.model.specs.State.{Change, Trial, closed, opened, State, changes}
+use Rattle.model.specs.State.{Trial, closed, opened, State, changes}
 use Rattle.model.specs.Lawful.{Lawful}
 use Rattle.model.specs.Call.{withTrial}
 use Rattle.patricia.specs.Tree.{Root, rootRoutes}
 use Rattle.patricia.proofs.Form.{RootGood, root-obeys-good, root-good-obeys}
-use Rattle.pool.specs.Layout.{word, size, rules, slot, capacityIn, countIn, rootIn, trialIn, standingIn, kindAt, markAt}
+use Rattle.pool.specs.Layout.{word, rules, standingIn, kindAt, markAt}
 use Rattle.pool.specs.Holds.{Seat, bareRoot, HoldsRoot}
 use Rattle.pool.specs.Means.{Recorded, TrialThere, Among, routesUsed, innersUsed, Means}
 use Rattle.pool.proofs.Local.{SlotSame, recorded-frame, recorded-length}

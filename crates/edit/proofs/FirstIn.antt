@@ -1,10 +1,10 @@
 -- The first route of an empty table, put in.
-use Prim.Native.Nat.{ℕ, zero, suc, _+_, _*_, _≤_, _<_}
+use Prim.Native.Nat.{ℕ, _+_, _≤_, _<_}
 use mathlib.Core.Path.{_≡_, refl, sym, ap, subst, _∙_}
 use mathlib.Core.Bool.{true}
-use mathlib.Core.List.{List, [], _∷_, _++_}
-use mathlib.Core.Logic.{_⊎_, inl, inr, ⊎-elim}
-use mathlib.Core.Option.{Option, none, some}
+use mathlib.Core.List.{List, [], _∷_}
+use mathlib.Core.Logic.{_⊎_, inl, inr}
+use mathlib.Core.Option.{none, some}
 use native.Mathlib.Omega.{arith}
 use lib.ListN.{length}
 use Rattle.bits.proofs.Cases.{eq-or-ne}
@@ -15,11 +15,11 @@ use Rattle.model.specs.State.{State, changes}
 use Rattle.model.specs.Call.{withTrial}
 use Rattle.model.proofs.Edits.{length-insert}
 use Rattle.patricia.specs.Tree.{leaf, Root, rootRoutes}
-use Rattle.pool.specs.Layout.{word, size, seat, joint, kindAt, markAt}
+use Rattle.pool.specs.Layout.{word, seat, joint, kindAt, markAt}
 use Rattle.pool.specs.Link.{toRoute}
 use Rattle.pool.specs.Holds.{Seat, bareRoot}
 use Rattle.pool.specs.Means.{Among, routesUsed, innersUsed}
-use Rattle.edit.specs.Writes.{Write, writes, routeWrites, firstWrites}
+use Rattle.edit.specs.Writes.{writes, routeWrites, firstWrites}
 use Rattle.edit.proofs.Writes.{Off, off-append, word-off, word-on, on-right}
 use Rattle.edit.proofs.Spared.{OffSeat, seats-apart, off-route, aside}
 use Rattle.edit.proofs.Stands.{entryAt, route-written, next-written}

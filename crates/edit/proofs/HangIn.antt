@@ -1,10 +1,10 @@
 -- Another length of a held address, put in: the words after the writes say the state with the route inserted.
-use Prim.Native.Nat.{ℕ, zero, suc, _+_, _*_, _≤_, _<_}
+use Prim.Native.Nat.{ℕ, _+_, _≤_, _<_}
 use mathlib.Core.Path.{_≡_, refl, sym, ap, subst, _∙_}
 use mathlib.Core.Bool.{true}
 use mathlib.Core.List.{List, [], _∷_, _++_}
 use mathlib.Core.Logic.{_⊎_, inl, inr, ⊎-elim}
-use mathlib.Core.Option.{Option, none, some}
+use mathlib.Core.Option.{none, some}
 use native.Mathlib.Omega.{arith}
 use borrow.Author.Tests.{lt-ltb, le-ltb}
 use lib.ListN.{length}
@@ -15,23 +15,23 @@ use Rattle.model.specs.Ipv4.{Hop}
 use Rattle.model.specs.State.{State, changes}
 use Rattle.model.specs.Call.{withTrial}
 use Rattle.model.proofs.Edits.{length-insert}
-use Rattle.patricia.specs.Tree.{Entry, Tree, leaf, node, routes}
+use Rattle.patricia.specs.Tree.{Entry, leaf, routes}
 use Rattle.patricia.specs.Obeys.{Shorter}
 use Rattle.patricia.specs.Way.{plug}
 use Rattle.patricia.proofs.Form.{Good}
 use Rattle.patricia.proofs.Find.{reached}
 use Rattle.patricia.proofs.Hang.{hang, hangAt, hang-good, hang-routes}
 use Rattle.patricia.proofs.Zip.{reached-plug, hang-plug}
-use Rattle.pool.specs.Layout.{word, size, seat, joint, kindAt, nextAt, markAt}
+use Rattle.pool.specs.Layout.{word, seat, kindAt, markAt}
 use Rattle.pool.specs.Link.{toRoute}
 use Rattle.pool.specs.Holds.{Seat, Seated, bareEntry, bareEntries, bare, Chain, Holds, chainPlaces, routePlaces, innerPlaces}
 use Rattle.pool.specs.Means.{Among}
 use Rattle.pool.proofs.Distinct.{Distinct}
 use Rattle.pool.proofs.Frame.{among-append, append-among}
 use Rattle.edit.specs.Cells.{cellOf, endCell, Longer}
-use Rattle.edit.specs.Writes.{Write, writes, routeWrites, hangWrites}
+use Rattle.edit.specs.Writes.{writes, routeWrites, hangWrites}
 use Rattle.edit.specs.Plan.{HangsAt}
-use Rattle.edit.proofs.Way.{bareWay, bare-plug, plug-way, wayRoutes, wayInners, routes-plug, plug-routes, inners-plug, plug-inners}
+use Rattle.edit.proofs.Way.{bareWay, bare-plug, plug-way, wayRoutes, routes-plug, plug-routes, inners-plug, plug-inners}
 use Rattle.edit.proofs.Chains.{places-append, chain-split}
 use Rattle.edit.proofs.Rehang.{Rehung, leaf-chain, cell-cases, cell-range, rest-stays, rehung-holds}
 use Rattle.edit.proofs.Writes.{Off, off-append, word-on, on-right}

@@ -1,11 +1,11 @@
 -- A new address: its leaf and a part of the tree, joined under a new inner place. What the writes leave, and that it is the joined tree.
-use Prim.Native.Nat.{ℕ, zero, suc, _+_, _*_, _≤_, _<_}
+use Prim.Native.Nat.{ℕ, suc, _+_, _<_}
 use mathlib.Core.Path.{_≡_, refl, sym, ap, subst, _∙_}
-use mathlib.Core.List.{List, [], _∷_, _++_}
-use mathlib.Core.Logic.{_⊎_, inl, inr, ⊎-elim}
+use mathlib.Core.List.{List, [], _∷_}
+use mathlib.Core.Logic.{_⊎_, inl, inr}
 use native.Mathlib.Omega.{arith}
 use Rattle.bits.specs.Address.{bit}
-use Rattle.patricia.specs.Tree.{Entry, Tree, leaf, node}
+use Rattle.patricia.specs.Tree.{Entry}
 use Rattle.patricia.specs.Way.{toward, Step, wentLeft, wentRight, plug}
 use Rattle.patricia.proofs.Form.{side}
 use Rattle.patricia.proofs.Put.{join}
@@ -16,8 +16,8 @@ use Rattle.pool.specs.Means.{Among}
 use Rattle.pool.proofs.Distinct.{Distinct}
 use Rattle.pool.proofs.Frame.{RouteSame, InnerSame, holds-frame, routes-in-pool, inners-in-pool}
 use Rattle.edit.specs.Cells.{cellOf}
-use Rattle.edit.proofs.Way.{HoldsWay, way-plug, plug-way, wayRoutes, wayInners, plug-routes, plug-inners, InnerBut, inner-whole, way-frame}
-use Rattle.edit.proofs.Apart.{Asunder, routes-apart, inners-apart}
+use Rattle.edit.proofs.Way.{HoldsWay, way-plug, plug-way, wayInners, plug-routes, plug-inners, InnerBut, inner-whole, way-frame}
+use Rattle.edit.proofs.Apart.{inners-apart}
 
 -- every place but these stays, but for the cell
 pub record Stays (c : ℕ) (ws zs : List ℕ) (cell i j : ℕ) : Type 0 where

@@ -1,15 +1,15 @@
 -- A new address, put in: the words after the writes say the state with the route inserted.
-use Prim.Native.Nat.{ℕ, zero, suc, _+_, _*_, _≤_, _<_}
+use Prim.Native.Nat.{ℕ, _+_, _≤_, _<_}
 use mathlib.Core.Path.{_≡_, refl, sym, ap, subst, _∙_}
 use mathlib.Core.Bool.{true}
 use mathlib.Core.List.{List, [], _∷_, _++_}
 use mathlib.Core.Logic.{_⊎_, inl, inr, ⊎-elim}
-use mathlib.Core.Option.{Option, none, some}
+use mathlib.Core.Option.{some}
 use native.Mathlib.Numerals.{add-one}
 use native.Mathlib.Omega.{arith}
 use borrow.Author.Tests.{lt-ltb}
 use lib.ListN.{length}
-use Rattle.bits.specs.Address.{bit, Part}
+use Rattle.bits.specs.Address.{bit}
 use Rattle.bits.proofs.Cases.{eq-or-ne}
 use Rattle.model.specs.Prefix.{wellFormed}
 use Rattle.model.specs.Routes.{Route, insert}
@@ -17,21 +17,20 @@ use Rattle.model.specs.Ipv4.{Hop}
 use Rattle.model.specs.State.{State, changes}
 use Rattle.model.specs.Call.{withTrial}
 use Rattle.model.proofs.Edits.{length-insert}
-use Rattle.patricia.specs.Tree.{Entry, Tree, leaf, node, routes}
+use Rattle.patricia.specs.Tree.{Entry, leaf, node, routes}
 use Rattle.patricia.specs.Obeys.{Grows}
 use Rattle.patricia.specs.Way.{toward, Step, wentLeft, wentRight, plug}
 use Rattle.patricia.proofs.Form.{Good, side}
-use Rattle.patricia.proofs.Find.{reached}
 use Rattle.patricia.proofs.Put.{join, putAt, put-good, put-routes}
 use Rattle.patricia.proofs.Zip.{NotPast, put-plug}
-use Rattle.pool.specs.Layout.{word, size, seat, joint, kindAt, nextAt, markAt, leftAt, rightAt}
+use Rattle.pool.specs.Layout.{word, seat, joint, kindAt, markAt, leftAt, rightAt}
 use Rattle.pool.specs.Link.{toRoute, toInner}
 use Rattle.pool.specs.Holds.{Seat, Seated, bareEntry, bare, Holds, routePlaces, innerPlaces}
 use Rattle.pool.specs.Means.{Among}
 use Rattle.pool.proofs.Distinct.{Distinct}
-use Rattle.pool.proofs.Frame.{RouteSame, among-append, append-among, inners-in-pool}
+use Rattle.pool.proofs.Frame.{RouteSame, among-append}
 use Rattle.edit.specs.Cells.{cellOf}
-use Rattle.edit.specs.Writes.{Write, writes, routeWrites, innerWrites, innerJoin, joinWrites}
+use Rattle.edit.specs.Writes.{writes, routeWrites, innerJoin, joinWrites}
 use Rattle.edit.specs.Plan.{JoinsAt}
 use Rattle.edit.proofs.Way.{bareWay, bare-plug, plug-way, wayRoutes, wayInners, routes-plug, plug-routes, inners-plug, plug-inners, InnerBut}
 use Rattle.edit.proofs.Chains.{route-whole}
@@ -41,7 +40,7 @@ use Rattle.edit.proofs.Writes.{Off, On, off-append, on-left, on-right, 
 use Rattle.edit.proofs.Spared.{Cell, Clear, way-cell, cell-clear, OffSeat, OffJoint, seats-apart, joints-apart, off-route, off-inner, route-spared, inner-spared, aside}
 use Rattle.edit.proofs.Stands.{entryAt, free-new, inner-used, follows-bare, route-written, next-written, Stands}
 use Rattle.edit.specs.Encodes.{Encodes}
-use Rattle.edit.proofs.Encodes.{Aside, encodes-edit}
+use Rattle.edit.proofs.Encodes.{encodes-edit}
 
 not-past-bare : (k : ℕ) (w : List (Step ℕ Seat)) → NotPast k w → NotPast k (bareWay w)
 not-past-bare k [] n = tt

@@ -1,18 +1,18 @@
 -- The routes of one leaf changed from a cell on: what the writes leave, and that it is the tree with the changed leaf.
-use Prim.Native.Nat.{ℕ, zero, suc, _+_, _*_, _≤_, _<_}
+use Prim.Native.Nat.{ℕ, _+_, _<_}
 use mathlib.Core.Path.{_≡_, refl, sym, ap, subst, _∙_}
 use mathlib.Core.List.{List, [], _∷_, _++_}
-use mathlib.Core.Logic.{_⊎_, inl, inr, ⊎-elim}
+use mathlib.Core.Logic.{_⊎_, inl, inr}
 use native.Mathlib.Omega.{arith}
-use Rattle.patricia.specs.Tree.{Entry, Tree, leaf, node}
+use Rattle.patricia.specs.Tree.{Entry, leaf}
 use Rattle.patricia.specs.Way.{Step, wentLeft, wentRight, plug}
-use Rattle.pool.specs.Layout.{word, seat, joint, nextAt}
-use Rattle.pool.specs.Holds.{Seat, Seated, InPlace, Chain, Holds, chainPlaces, routePlaces, innerPlaces}
+use Rattle.pool.specs.Layout.{word, seat}
+use Rattle.pool.specs.Holds.{Seat, Chain, Holds, chainPlaces, routePlaces, innerPlaces}
 use Rattle.pool.specs.Means.{Among}
 use Rattle.pool.proofs.Distinct.{Distinct}
-use Rattle.pool.proofs.Frame.{RouteSame, InnerSame, chain-frame, among-append, append-among, routes-in-pool, inners-in-pool}
+use Rattle.pool.proofs.Frame.{chain-frame, among-append, routes-in-pool, inners-in-pool}
 use Rattle.edit.specs.Cells.{cellOf, endCell}
-use Rattle.edit.proofs.Way.{HoldsWay, way-plug, plug-way, wayRoutes, wayInners, plug-routes, plug-inners, InnerBut, way-frame}
+use Rattle.edit.proofs.Way.{HoldsWay, way-plug, plug-way, wayRoutes, plug-routes, plug-inners, InnerBut, way-frame}
 use Rattle.edit.proofs.Apart.{Asunder, asunder, routes-apart, inners-apart}
 use Rattle.edit.proofs.Chains.{ChainTo, chain-join, chain-split, places-append, end-owner, RouteBut, route-whole, chain-to-frame}
 

@@ -1,14 +1,14 @@
 -- Rows of writes as the code makes them, over plain values.
 use Prim.Native.Nat.{ℕ, _+_, _-_}
-use mathlib.Core.Path.{_≡_, refl, sym, ap, subst, _∙_}
-use mathlib.Core.List.{List, [], _∷_, _++_}
+use mathlib.Core.Path.{_≡_}
+use mathlib.Core.List.{List, [], _∷_}
 use lib.ListN.{set}
 use Rattle.model.specs.Prefix.{Prefix}
 use Rattle.model.specs.Routes.{Route}
 use Rattle.model.specs.Ipv4.{Hop}
 use Rattle.bits.specs.Address.{bit}
 use Rattle.patricia.specs.Way.{toward}
-use Rattle.pool.specs.Layout.{word, seat, joint, slot}
+use Rattle.pool.specs.Layout.{word, seat, slot}
 use Rattle.pool.specs.Link.{toRoute, toInner}
 use Rattle.pool.specs.Write.{withHop, withPrefix}
 use Rattle.edit.specs.Writes.{Write, writes, routeWrites, innerWrites, joinWrites, recordWrites}

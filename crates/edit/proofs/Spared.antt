@@ -1,8 +1,8 @@
 -- What an edit's writes spare: a route place, an inner place, the head and the slots, by where the writes go.
-use Prim.Native.Nat.{ℕ, zero, suc, _+_, _*_, _≤_, _<_}
-use mathlib.Core.Path.{_≡_, refl, sym, ap, subst, _∙_}
-use mathlib.Core.List.{List, [], _∷_, _++_}
-use mathlib.Core.Logic.{_⊎_, inl, inr, ⊎-elim}
+use Prim.Native.Nat.{ℕ, _+_, _*_, _≤_, _<_}
+use mathlib.Core.Path.{_≡_, refl}
+use mathlib.Core.List.{List, [], _∷_}
+use mathlib.Core.Logic.{_⊎_, inl, inr}
 use native.Mathlib.Omega.{arith}
 use lib.ListN.{length}
 use Rattle.bits.proofs.Cases.{lt-or-le}
@@ -10,7 +10,7 @@ use Rattle.model.specs.Routes.{Route}
 use Rattle.model.specs.Ipv4.{Hop}
 use Rattle.patricia.specs.Tree.{Entry}
 use Rattle.patricia.specs.Way.{Step, wentLeft, wentRight}
-use Rattle.pool.specs.Layout.{word, size, seat, joint, slot, hopAt, prefixAt}
+use Rattle.pool.specs.Layout.{seat, joint}
 use Rattle.pool.specs.Holds.{Seat, chainPlaces}
 use Rattle.pool.specs.Means.{Among}
 use Rattle.pool.proofs.Local.{slot-agree}
@@ -18,7 +18,7 @@ use Rattle.edit.specs.Cells.{cellOf, endCell}
 use Rattle.edit.specs.Writes.{Write, writes, routeWrites, innerWrites}
 use Rattle.edit.proofs.Way.{HoldsWay, InnerBut}
 use Rattle.edit.proofs.Chains.{RouteBut, end-owner}
-use Rattle.edit.proofs.Writes.{Off, off-append, word-off, length-writes}
+use Rattle.edit.proofs.Writes.{Off, word-off, length-writes}
 use Rattle.edit.proofs.Encodes.{Aside}
 
 -- ---- cells

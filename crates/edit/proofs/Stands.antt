@@ -1,35 +1,28 @@
 -- The tree that the words of a state hold, its places, and a route as it is written.
-use Prim.Native.Nat.{ℕ, zero, suc, _+_, _*_, _≤_, _<_}
-use mathlib.Core.Path.{_≡_, refl, sym, ap, subst, _∙_}
-use mathlib.Core.Bool.{true}
+use Prim.Native.Nat.{ℕ, _+_, _≤_, _<_}
+use mathlib.Core.Path.{_≡_, refl, sym, subst, _∙_}
 use mathlib.Core.List.{List, [], _∷_, _++_}
 use mathlib.Core.Logic.{_⊎_, inl, inr, ⊎-elim}
-use mathlib.Core.Option.{Option, none, some}
-use native.Mathlib.Nat.{le-trans}
+use mathlib.Core.Option.{some}
 use native.Mathlib.Omega.{arith}
 use lib.ListN.{length}
-use Rattle.model.specs.Prefix.{Prefix, wellFormed}
-use Rattle.model.specs.Routes.{Route, find, insert}
+use Rattle.model.specs.Routes.{Route}
 use Rattle.model.specs.Ipv4.{Hop, direct, via, reject}
-use Rattle.model.specs.State.{State, changes}
-use Rattle.patricia.specs.Tree.{Entry, Tree, leaf, node, Root, routeOf, routes, rootRoutes}
-use Rattle.patricia.specs.Way.{Step, wentLeft, wentRight, plug}
+use Rattle.model.specs.State.{State}
+use Rattle.patricia.specs.Tree.{Entry, leaf, node, Root, routes, rootRoutes}
+use Rattle.patricia.specs.Way.{Step, wentLeft, wentRight}
 use Rattle.patricia.proofs.Form.{Good, RootGood}
-use Rattle.patricia.proofs.Zip.{Follows, reached-plug, hang-plug}
-use Rattle.pool.specs.Layout.{word, size, seat, joint, kindAt, nextAt, hopAt, hopFrom, prefixAt, markAt}
-use Rattle.pool.specs.Link.{toRoute, toInner}
+use Rattle.patricia.proofs.Zip.{Follows}
+use Rattle.pool.specs.Layout.{word, size, seat, kindAt, nextAt, hopFrom, markAt}
 use Rattle.pool.specs.Write.{kindOf, portOf, gatewayOf}
-use Rattle.pool.specs.Holds.{Seat, Seated, bareEntry, bareEntries, bare, InPlace, Chain, Holds, HoldsRoot, bareRoot, chainPlaces, routePlaces, innerPlaces}
+use Rattle.pool.specs.Holds.{Seat, Seated, bare, InPlace, Chain, Holds, HoldsRoot, bareRoot, chainPlaces, routePlaces, innerPlaces}
 use Rattle.pool.specs.Means.{Among, routesUsed, innersUsed}
 use Rattle.pool.proofs.Distinct.{Distinct, routes-distinct, inners-distinct}
-use Rattle.pool.proofs.Frame.{among-append, append-among, routes-in-pool, inners-in-pool}
-use Rattle.edit.specs.Cells.{cellOf, endCell, Longer}
-use Rattle.edit.specs.Writes.{Write, writes, routeWrites, innerWrites}
-use Rattle.edit.proofs.Way.{bareWay, bare-plug, HoldsWay, plug-way, wayRoutes, wayInners, routes-plug, plug-routes, inners-plug, plug-inners, InnerBut}
-use Rattle.edit.proofs.Writes.{Off, On, off-append, word-off, word-on, on-left, on-right, length-writes}
-use Rattle.edit.proofs.Spared.{Cell, Clear, way-cell, chain-cell, cell-clear, OffSeat, seats-apart, off-route, route-spared, inner-spared, aside}
+use Rattle.pool.proofs.Frame.{append-among}
+use Rattle.edit.specs.Writes.{Write, writes, routeWrites}
+use Rattle.edit.proofs.Way.{bareWay}
+use Rattle.edit.proofs.Writes.{Off, On, word-on, on-left}
 use Rattle.edit.specs.Encodes.{Encodes}
-use Rattle.edit.proofs.Encodes.{Aside, encodes-edit}
 
 -- ---- small facts
 

@@ -1,9 +1,9 @@
 -- A route taken out of a chain that goes on, or changed in its place: the words after the writes say the state without it, or with the other.
-use Prim.Native.Nat.{ℕ, zero, suc, _+_, _-_, _*_, _≤_, _<_}
+use Prim.Native.Nat.{ℕ, _+_, _-_, _≤_, _<_}
 use mathlib.Core.Path.{_≡_, refl, sym, ap, subst, _∙_}
 use mathlib.Core.List.{List, [], _∷_, _++_}
 use mathlib.Core.Logic.{_⊎_, inl, inr, ⊎-elim}
-use mathlib.Core.Option.{Option, none, some}
+use mathlib.Core.Option.{some}
 use native.Mathlib.Omega.{arith}
 use borrow.Author.Tests.{eq-eqb, ne-eqb}
 use lib.ListN.{length}
@@ -14,23 +14,23 @@ use Rattle.model.specs.Ipv4.{Hop}
 use Rattle.model.specs.State.{State, changes}
 use Rattle.model.specs.Call.{withTrial}
 use Rattle.model.proofs.Edits.{length-remove, length-replace}
-use Rattle.patricia.specs.Tree.{Entry, Tree, leaf, node, Root, routes, rootRoutes}
+use Rattle.patricia.specs.Tree.{Entry, leaf, routes, rootRoutes}
 use Rattle.patricia.specs.Way.{plug}
 use Rattle.patricia.proofs.Form.{Good, RootGood, routes-in-order}
 use Rattle.patricia.proofs.Swap.{exchange, swapAt, swap-good, swap-routes}
 use Rattle.patricia.proofs.Take.{unhang, leafOf, takeOut, take-good, take-routes}
 use Rattle.patricia.proofs.Zip.{plugRoot, take-plug, swap-plug}
-use Rattle.pool.specs.Layout.{word, size, seat, joint, kindAt, nextAt, markAt, hopFrom}
+use Rattle.pool.specs.Layout.{word, seat, kindAt, nextAt, markAt, hopFrom}
 use Rattle.pool.specs.Write.{kindOf, portOf, gatewayOf}
-use Rattle.pool.specs.Holds.{Seat, Seated, bareEntry, bareEntries, bare, bareRoot, InPlace, Chain, Holds, chainPlaces, routePlaces, innerPlaces}
+use Rattle.pool.specs.Holds.{Seat, Seated, bareEntry, bareEntries, bare, InPlace, Chain, Holds, chainPlaces, routePlaces, innerPlaces}
 use Rattle.pool.specs.Means.{Among}
 use Rattle.pool.proofs.Distinct.{Distinct}
-use Rattle.pool.proofs.Frame.{among-append, append-among, routes-in-pool}
-use Rattle.edit.specs.Cells.{cellOf, endCell, Longer}
+use Rattle.pool.proofs.Frame.{among-append, append-among}
+use Rattle.edit.specs.Cells.{cellOf, Longer}
 use Rattle.edit.specs.Writes.{Write, writes, linkWrites, hopWrites}
 use Rattle.edit.specs.Plan.{HungAt}
-use Rattle.edit.proofs.Way.{bareWay, bare-plug, plug-way, wayRoutes, wayInners, routes-plug, plug-routes, inners-plug, plug-inners, InnerBut}
-use Rattle.edit.proofs.Chains.{RouteBut, places-append, chain-split}
+use Rattle.edit.proofs.Way.{bareWay, bare-plug, plug-way, wayRoutes, routes-plug, plug-routes, inners-plug, plug-inners}
+use Rattle.edit.proofs.Chains.{places-append, chain-split}
 use Rattle.edit.proofs.Rehang.{Rehung, leaf-chain, rest-stays, rehung-holds}
 use Rattle.edit.proofs.Writes.{Off, word-off, word-on}
 use Rattle.edit.proofs.Spared.{Clear, OffSeat}

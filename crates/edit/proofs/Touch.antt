@@ -1,13 +1,13 @@
 -- Writes that touch one route place, one cell and the count, and nothing else: what they spare.
-use Prim.Native.Nat.{ℕ, zero, suc, _+_, _*_, _≤_, _<_}
-use mathlib.Core.Path.{_≡_, refl, sym, ap, subst, _∙_}
-use mathlib.Core.List.{List, [], _∷_, _++_}
-use mathlib.Core.Logic.{_⊎_, inl, inr}
+use Prim.Native.Nat.{ℕ, _+_, _<_}
+use mathlib.Core.Path.{_≡_, sym, subst, _∙_}
+use mathlib.Core.List.{List, _++_}
+use mathlib.Core.Logic.{inl, inr}
 use native.Mathlib.Omega.{arith}
 use Rattle.patricia.specs.Tree.{Entry, leaf}
 use Rattle.patricia.specs.Way.{Step, plug}
-use Rattle.pool.specs.Layout.{word, size, seat, joint}
-use Rattle.pool.specs.Holds.{Seat, Seated, Holds, chainPlaces, routePlaces}
+use Rattle.pool.specs.Layout.{word, seat, joint}
+use Rattle.pool.specs.Holds.{Seat, Holds, chainPlaces, routePlaces}
 use Rattle.pool.specs.Means.{Among}
 use Rattle.pool.proofs.Frame.{among-append, routes-in-pool}
 use Rattle.edit.specs.Cells.{cellOf, endCell}
@@ -16,7 +16,7 @@ use Rattle.edit.proofs.Way.{plug-way, plug-routes, InnerBut}
 use Rattle.edit.proofs.Chains.{RouteBut, places-append}
 use Rattle.edit.proofs.Rehang.{Rehung}
 use Rattle.edit.proofs.Writes.{Off, word-off}
-use Rattle.edit.proofs.Spared.{Cell, Clear, way-cell, chain-cell, cell-clear, OffSeat, seats-apart, route-spared, inner-spared, aside}
+use Rattle.edit.proofs.Spared.{Clear, way-cell, chain-cell, cell-clear, OffSeat, seats-apart, route-spared, inner-spared, aside}
 use Rattle.edit.proofs.Encodes.{Aside}
 
 -- the cell after the first routes of a leaf that stands in the words

@@ -1,27 +1,26 @@
 -- A trial opened, kept, stepped back, and a change recorded: the words after the writes say the state with the other trial.
-use Prim.Native.Nat.{ℕ, zero, suc, _+_, _*_, _≤_, _<_}
-use mathlib.Core.Path.{_≡_, refl, sym, ap, subst, _∙_}
-use mathlib.Core.List.{List, [], _∷_, _++_}
-use mathlib.Core.Logic.{_⊎_, inl, inr, ⊎-elim}
-use mathlib.Core.Option.{Option, none, some}
+use Prim.Native.Nat.{ℕ, suc, _+_, _*_, _≤_, _<_}
+use mathlib.Core.Path.{_≡_, refl, sym, subst, _∙_}
+use mathlib.Core.List.{List, [], _∷_}
+use mathlib.Core.Logic.{inl, inr}
+use mathlib.Core.Option.{none, some}
 use native.Mathlib.Nat.{le-trans}
 use native.Mathlib.Numerals.{add-one}
 use native.Mathlib.Omega.{arith}
 use lib.ListN.{length}
 use Rattle.model.specs.Prefix.{Prefix}
-use Rattle.model.specs.Routes.{Route}
 use Rattle.model.specs.Ipv4.{Hop}
-use Rattle.model.specs.State.{Change, added, deleted, changed, Trial, closed, opened, State, changes}
+use Rattle.model.specs.State.{Change, added, deleted, changed, Trial, closed, opened, State}
 use Rattle.model.specs.Call.{withTrial}
 use Rattle.patricia.specs.Tree.{Root}
-use Rattle.pool.specs.Layout.{word, size, seat, joint, slot, hopAt, hopFrom, prefixAt, standingIn}
+use Rattle.pool.specs.Layout.{word, seat, joint, slot, hopAt, hopFrom, prefixAt}
 use Rattle.pool.specs.Holds.{Seat, HoldsRoot}
 use Rattle.pool.specs.Means.{KindKnown, Records, Recorded, TrialThere}
 use Rattle.pool.specs.Write.{kindOf, portOf, gatewayOf}
 use Rattle.pool.proofs.Frame.{RouteSame, InnerSame, holds-frame, routes-in-pool, inners-in-pool}
 use Rattle.pool.proofs.Local.{slot-agree, recorded-frame, recorded-length}
-use Rattle.edit.specs.Writes.{Write, writes, recordWrites, headWrites}
-use Rattle.edit.proofs.Writes.{Off, On, word-off, word-on, length-writes}
+use Rattle.edit.specs.Writes.{writes, recordWrites, headWrites}
+use Rattle.edit.proofs.Writes.{On, word-off, word-on, length-writes}
 use Rattle.edit.proofs.Stands.{kind-known, hop-back}
 use Rattle.edit.specs.Encodes.{Encodes}
 

@@ -1,11 +1,11 @@
 -- A tree in the words as a part and the way to it: the cell that links to the part, and the places that the way and its siblings use.
-use Prim.Native.Nat.{ℕ, zero, suc, _+_, _*_, _≤_, _<_}
-use mathlib.Core.Path.{_≡_, refl, sym, ap, subst, _∙_}
+use Prim.Native.Nat.{ℕ, suc, _+_, _<_}
+use mathlib.Core.Path.{_≡_, refl, sym, subst, _∙_}
 use mathlib.Core.List.{List, [], _∷_, _++_}
 use mathlib.Core.Logic.{_⊎_, inl, inr, ⊎-elim}
 use native.Mathlib.Omega.{arith}
 use Rattle.model.specs.Ipv4.{Hop}
-use Rattle.patricia.specs.Tree.{Entry, Tree, leaf, node}
+use Rattle.patricia.specs.Tree.{node}
 use Rattle.patricia.specs.Way.{Step, wentLeft, wentRight, plug}
 use Rattle.pool.specs.Layout.{word, joint, markAt, leftAt, rightAt}
 use Rattle.pool.specs.Link.{toInner}

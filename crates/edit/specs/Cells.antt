@@ -1,11 +1,10 @@
 -- Cells: the words that hold a link, and what of a tree stands before and behind one.
 use Prim.Native.Nat.{ℕ, zero, suc, _+_, _-_, _<_}
-use mathlib.Core.Path.{_≡_}
-use mathlib.Core.List.{List, [], _∷_, _++_}
+use mathlib.Core.List.{List, [], _∷_}
 use lib.ListN.{getD}
 use Rattle.bits.specs.Address.{bit}
-use Rattle.patricia.specs.Tree.{Entry, Tree, leaf, node}
-use Rattle.patricia.specs.Way.{Step, wentLeft, wentRight, plug}
+use Rattle.patricia.specs.Tree.{Entry}
+use Rattle.patricia.specs.Way.{Step, wentLeft, wentRight}
 use Rattle.pool.specs.Layout.{seat, joint, markAt, leftAt, rightAt}
 use Rattle.pool.specs.Holds.{Seat, Seated}
 

@@ -1,19 +1,18 @@
 -- Where a route goes in, and where one is taken out: read off a sound pool before a word is written.
-use Prim.Native.Nat.{ℕ, zero, suc, _+_, _≤_, _<_}
+use Prim.Native.Nat.{ℕ, _+_}
 use mathlib.Core.Path.{_≡_}
 use mathlib.Core.List.{List, [], _∷_, _++_}
-use mathlib.Core.Option.{Option, none, some}
+use mathlib.Core.Option.{none}
 use Rattle.bits.specs.Address.{Part}
 use Rattle.model.specs.Prefix.{Prefix}
-use Rattle.model.specs.Routes.{Route, find}
-use Rattle.model.specs.Ipv4.{Hop}
-use Rattle.patricia.specs.Tree.{Entry, Tree, leaf, node, routes}
+use Rattle.model.specs.Routes.{find}
+use Rattle.patricia.specs.Tree.{Entry, leaf, routes}
 use Rattle.patricia.specs.Obeys.{Grows, Shorter}
-use Rattle.patricia.specs.Way.{Step, wentLeft, wentRight, plug}
+use Rattle.patricia.specs.Way.{Step, plug}
 use Rattle.patricia.proofs.Form.{Good}
 use Rattle.patricia.proofs.Find.{reached}
 use Rattle.patricia.proofs.Zip.{Follows, NotPast}
-use Rattle.pool.specs.Layout.{rootIn, leftAt, rightAt}
+use Rattle.pool.specs.Layout.{rootIn}
 use Rattle.pool.specs.Holds.{Seat, Seated, bare, Holds}
 use Rattle.edit.specs.Cells.{cellOf, endCell, Longer, placeOf, siblingLink}
 use Rattle.edit.specs.declared.plan.PutPlan.{PutPlan}

@@ -1,13 +1,13 @@
 -- Two lists of routes, one behind the other: how find, insert and remove go to the side that they concern.
-use mathlib.Core.Path.{_≡_, refl, sym, ap, _∙_}
+use mathlib.Core.Path.{_≡_, refl, ap}
 use mathlib.Core.Bool.{Bool, true, false, cond}
 use mathlib.Core.List.{List, [], _∷_, _++_}
 use mathlib.Core.Logic.{_⊎_, inl, inr, _↔_, ⊎-elim}
 use mathlib.Core.Option.{Option, none, some}
 use Rattle.model.specs.Prefix.{Prefix, Before, before, same}
-use Rattle.model.specs.Routes.{Route, Held, AllAfter, InOrder, find, insert, remove, replace}
-use Rattle.model.proofs.Order.{behind-not-before, behind-not-same, before-not-same}
-use Rattle.model.proofs.Routes.{after-trans, held-after, all-after, find-after}
+use Rattle.model.specs.Routes.{Route, Held, AllAfter, InOrder, find, insert, remove}
+use Rattle.model.proofs.Order.{behind-not-before, behind-not-same}
+use Rattle.model.proofs.Routes.{held-after, all-after}
 use Rattle.model.proofs.Edits.{off-head, insert-front}
 
 module _ {P : Type 0} where

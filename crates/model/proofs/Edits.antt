@@ -1,14 +1,14 @@
 -- Insert, remove and replace: each keeps the walk order, changes one route and no other, and can be taken back.
-use Prim.Native.Nat.{ℕ, suc}
-use mathlib.Core.Path.{_≡_, refl, sym, ap, ap₂, subst, _∙_}
-use mathlib.Core.Bool.{Bool, true, false, cond, true≢false}
+use Prim.Native.Nat.{suc}
+use mathlib.Core.Path.{_≡_, refl, sym, ap, subst, _∙_}
+use mathlib.Core.Bool.{Bool, true, false, true≢false}
 use mathlib.Core.List.{List, [], _∷_}
 use mathlib.Core.Logic.{_⊎_, inl, inr, _↔_, ⊎-elim}
-use mathlib.Core.Option.{Option, none, some}
+use mathlib.Core.Option.{none, some}
 use lib.ListN.{length}
 use Rattle.model.specs.Prefix.{Prefix, Before, before, same}
-use Rattle.model.specs.Routes.{Route, Held, AllAfter, InOrder, find, present, holds, insert, remove, replace}
-use Rattle.model.proofs.Order.{same-true, true-same, true-before, before-irrefl, before-not-same, behind-not-same, behind-not-before, Placed, ahead, one, behind, placed}
+use Rattle.model.specs.Routes.{Route, Held, AllAfter, InOrder, find, insert, remove, replace}
+use Rattle.model.proofs.Order.{same-true, true-same, true-before, before-irrefl, behind-not-before, Placed, ahead, one, behind, placed}
 use Rattle.model.proofs.Routes.{after-trans, held-after, find-after, find-held, held-find}
 use Rattle.model.proofs.Tests.{none-not-some}
 

@@ -1,20 +1,20 @@
 -- Demand 3 for the model: a change taken back leaves the state before it, and after any run from a fresh table the state is what the transcript's
 -- survivors make of an empty table.
-use Prim.Native.Nat.{ℕ, zero, suc, _≤_}
+use Prim.Native.Nat.{ℕ, zero, suc}
 use mathlib.Core.Path.{_≡_, refl, sym, ap, subst, _∙_}
-use mathlib.Core.Bool.{Bool, true, false, not, cond, true≢false, false≢true}
+use mathlib.Core.Bool.{Bool, true, false, not, cond, true≢false}
 use mathlib.Core.List.{List, [], _∷_, _++_, tail}
-use mathlib.Core.Option.{Option, none, some}
-use borrow.Author.Tests.{eqb-true, eq-eqb, not-true, not-false}
+use mathlib.Core.Option.{some}
+use borrow.Author.Tests.{eq-eqb, not-false}
 use lib.Dec.{eqb, eqb·suc-zero}
 use lib.ListN.{length}
 use Rattle.model.specs.Prefix.{Prefix}
-use Rattle.model.specs.Routes.{Route, find, holds, insert, remove, replace}
-use Rattle.model.specs.State.{Rules, Change, added, deleted, changed, Trial, closed, opened, State, Meaning, empty, isOpen, changes, recordIn, undo, undoAll}
-use Rattle.model.specs.Call.{Call, fresh, add, delete, change, lookup, first, after, room, mask, openTrial, keep, backOut, stepBack, due, number, accepted, changeTo, deleteFrom, changeAt, withTrial, steppedBack, onState, done, next}
+use Rattle.model.specs.Routes.{Route}
+use Rattle.model.specs.State.{Rules, Change, added, deleted, changed, Trial, closed, opened, State, Meaning, empty, isOpen, changes, undo, undoAll}
+use Rattle.model.specs.Call.{Call, fresh, add, delete, change, lookup, first, after, room, mask, openTrial, keep, backOut, stepBack, due, number, accepted, changeTo, withTrial, steppedBack, done, next}
 use Rattle.model.specs.Lawful.{Lawful}
-use Rattle.model.specs.History.{Deed, put, drop, swap, Told, noted, heard, heardIf, told, survivors, act, replay}
-use Rattle.model.proofs.Tests.{both, none-not-some}
+use Rattle.model.specs.History.{Deed, put, drop, swap, Told, noted, heard, heardIf, told, act, replay}
+use Rattle.model.proofs.Tests.{both}
 use Rattle.model.proofs.Undo.{add-records, delete-records, change-records}
 use Rattle.model.proofs.Numbers.{Quiet, accepted-quiet}
 use Rattle.model.proofs.Lawful.{Recorded, recorded-add, recorded-delete, recorded-change, absent, there, LawfulMeaning, next-lawful, empty-lawful}

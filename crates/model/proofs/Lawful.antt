@@ -1,21 +1,21 @@
 -- "A fresh pool is sound and every accepted call keeps it sound", for the state that it means.
-use Prim.Native.Nat.{ℕ, zero, suc, _≤_, _<_, zero-le}
+use Prim.Native.Nat.{ℕ, suc, _≤_, zero-le}
 use mathlib.Core.Path.{_≡_, refl, sym, ap, subst, _∙_}
-use mathlib.Core.Bool.{Bool, true, false, not, cond, _&&_, _||_, true≢false}
+use mathlib.Core.Bool.{Bool, true, false, true≢false}
 use mathlib.Core.List.{List, [], _∷_}
-use mathlib.Core.Logic.{_⊎_, inl, inr, _↔_, ⊎-elim}
+use mathlib.Core.Logic.{_⊎_, inl, inr, ⊎-elim}
 use mathlib.Core.Option.{Option, none, some}
 use native.Mathlib.Nat.{le-trans, le-of-eq, le-suc}
 use native.Mathlib.Omega.{arith}
-use borrow.Author.Tests.{eqb-false, ltb-false, not-true, not-false}
-use lib.Dec.{eqb, ltb}
+use borrow.Author.Tests.{eqb-false, ltb-false, not-false}
+use lib.Dec.{eqb}
 use lib.ListN.{length}
 use Rattle.model.specs.Prefix.{Prefix, wellFormed}
 use Rattle.model.specs.Routes.{Route, Held, InOrder, find, present, holds, insert, remove, replace}
-use Rattle.model.specs.State.{Rules, Change, added, deleted, changed, Trial, closed, opened, State, Meaning, empty, full, isOpen, changes, recordIn, undo, undoAll}
-use Rattle.model.specs.Call.{Call, fresh, add, delete, change, lookup, first, after, room, mask, openTrial, keep, backOut, stepBack, due, number, accepted, trialFull, changeTo, deleteFrom, changeAt, withTrial, steppedBack, onState, done, next}
+use Rattle.model.specs.State.{Rules, Change, added, deleted, changed, Trial, closed, opened, State, Meaning, empty, changes, undo, undoAll}
+use Rattle.model.specs.Call.{Call, fresh, add, delete, change, lookup, first, after, room, mask, openTrial, keep, backOut, stepBack, due, accepted, trialFull, changeTo, deleteFrom, changeAt, withTrial, steppedBack, done, next}
 use Rattle.model.specs.Lawful.{Obeys, AllObey, ChangeObeys, AllChangesObey, CanUndo, Undoable, Lawful}
-use Rattle.model.proofs.Tests.{both, either, fails, none-not-some, or-left, or-right}
+use Rattle.model.proofs.Tests.{both, fails, or-left, or-right}
 use Rattle.model.proofs.Routes.{find-held}
 use Rattle.model.proofs.Edits.{insert-order, insert-held, insert-found, length-insert, remove-order, remove-absent, remove-held, length-remove, replace-order, replace-held, replace-found, length-replace}
 use Rattle.model.proofs.Undo.{undo-add, undo-delete, undo-change}

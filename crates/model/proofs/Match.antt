@@ -1,20 +1,20 @@
 -- The longest match: there is one exactly when a route matches, and it is the only one; `best` finds it.
-use Prim.Native.Nat.{ℕ, suc, _≤_, _<_, _^_}
+use Prim.Native.Nat.{ℕ, _≤_, _<_, _^_}
 use mathlib.Core.Path.{_≡_, refl, sym, ap, subst, _∙_}
-use mathlib.Core.Bool.{Bool, true, false, cond, _&&_, true≢false}
+use mathlib.Core.Bool.{Bool, true, false, _&&_, true≢false}
 use mathlib.Core.List.{List, [], _∷_, _++_}
 use mathlib.Core.Logic.{_⊎_, inl, inr, ⊎-elim}
 use mathlib.Core.Option.{Option, none, some}
 use native.Mathlib.Nat.{le-refl, le-trans, le-of-lt}
 use native.Mathlib.Omega.{arith}
 use borrow.Author.Tests.{leb-true, le-leb, ltb-true, ltb-false, lt-ltb, eqb-true, eq-eqb}
-use lib.Dec.{ltb, leb, eqb}
+use lib.Dec.{ltb, leb}
 use Rattle.bits.specs.Address.{first, clear}
 use Rattle.bits.proofs.First.{Clear, clear-true, true-clear, clear-same}
 use Rattle.model.specs.Prefix.{Prefix, wellFormed, matches}
 use Rattle.model.specs.Routes.{Route, Held, InOrder, find}
 use Rattle.model.specs.Match.{LongestMatch, NoMatch, longer, best}
-use Rattle.model.proofs.Tests.{both, and-both, none-not-some}
+use Rattle.model.proofs.Tests.{both, and-both}
 use Rattle.model.proofs.Routes.{held-find}
 use Rattle.model.proofs.Append.{held-append}
 

@@ -1,16 +1,16 @@
 -- The numbers: each is given exactly when its line holds and no earlier one does, and a call is accepted exactly when no line holds.
-use Prim.Native.Nat.{ℕ, zero, suc}
-use mathlib.Core.Path.{_≡_, refl, sym, ap, subst, _∙_}
-use mathlib.Core.Bool.{Bool, true, false, not, cond, _&&_, _||_, true≢false}
+use Prim.Native.Nat.{ℕ}
+use mathlib.Core.Path.{_≡_, refl, sym, _∙_}
+use mathlib.Core.Bool.{Bool, true, false, not, cond, _&&_, true≢false}
 use mathlib.Core.List.{List, [], _∷_}
 use mathlib.Core.Logic.{_⊎_, inl, inr, _↔_}
-use mathlib.Core.Option.{Option, none, some}
-use borrow.Author.Tests.{eqb-true, eq-eqb, not-true, not-false}
-use lib.Dec.{T, eqb}
-use Rattle.model.specs.Prefix.{Prefix, wellFormed}
-use Rattle.model.specs.Routes.{Route, find, present, holds}
+use mathlib.Core.Option.{none, some}
+use borrow.Author.Tests.{eqb-true, eq-eqb, not-true}
+use lib.Dec.{eqb}
+use Rattle.model.specs.Prefix.{wellFormed}
+use Rattle.model.specs.Routes.{Route, holds}
 use Rattle.model.specs.State.{Rules, State, Meaning, full}
-use Rattle.model.specs.Call.{Call, fresh, add, delete, change, lookup, first, after, room, mask, openTrial, keep, backOut, stepBack, Line, firstDue, due, number, accepted, trialFull, stateOf}
+use Rattle.model.specs.Call.{Call, fresh, add, delete, change, lookup, first, after, room, mask, openTrial, keep, backOut, stepBack, Line, firstDue, due, number, accepted, trialFull}
 use Rattle.model.proofs.Tests.{both}
 
 -- ---- "each number is given exactly when its line holds and no earlier one does"

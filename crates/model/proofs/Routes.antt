@@ -1,12 +1,11 @@
 -- A list of routes in walk order: what it holds, what `find` finds in it, and that the same routes make the same list.
-use Prim.Native.Nat.{ℕ, suc}
 use mathlib.Core.Path.{_≡_, refl, sym, ap, ap₂, subst, _∙_}
-use mathlib.Core.Bool.{Bool, true, false, cond}
+use mathlib.Core.Bool.{Bool, true, false}
 use mathlib.Core.List.{List, [], _∷_}
-use mathlib.Core.Logic.{_⊎_, inl, inr, _↔_, ⊎-elim}
-use mathlib.Core.Option.{Option, none, some}
-use Rattle.model.specs.Prefix.{Prefix, Before, before, same}
-use Rattle.model.specs.Routes.{Route, Held, AllAfter, InOrder, find, present, holds}
+use mathlib.Core.Logic.{_⊎_, inl, inr, _↔_}
+use mathlib.Core.Option.{none, some}
+use Rattle.model.specs.Prefix.{Prefix, Before, same}
+use Rattle.model.specs.Routes.{Route, Held, AllAfter, InOrder, find}
 use Rattle.model.proofs.Order.{same-true, true-same, before-irrefl, before-trans, before-not-same, behind-not-same}
 use Rattle.model.proofs.Tests.{none-not-some}
 

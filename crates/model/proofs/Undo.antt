@@ -4,8 +4,8 @@ use mathlib.Core.List.{List}
 use mathlib.Core.Option.{Option, none, some}
 use Rattle.model.specs.Prefix.{Prefix}
 use Rattle.model.specs.Routes.{Route, InOrder, find, insert, remove, replace}
-use Rattle.model.specs.State.{Change, added, deleted, changed, State, undo}
-use Rattle.model.specs.Call.{Call, add, delete, change, changeTo, deleteFrom, changeAt, done}
+use Rattle.model.specs.State.{added, deleted, changed, State, undo}
+use Rattle.model.specs.Call.{add, delete, change, changeTo, deleteFrom, changeAt, done}
 use Rattle.model.proofs.Edits.{remove-insert, insert-remove, replace-back}
 
 module _ {P : Type 0} where

@@ -1,11 +1,10 @@
 -- Document 01, "Calls and trials" and "When the table says no": what each call answers, and what it makes of the table.
-use Prim.Native.Nat.{ℕ, suc, _+_}
+use Prim.Native.Nat.{ℕ}
 use mathlib.Core.Bool.{Bool, true, false, not, cond, _&&_, _||_}
 use mathlib.Core.List.{List, [], _∷_}
 use mathlib.Core.Option.{Option, none, some}
-use lib.Dec.{leb, ltb, eqb}
+use lib.Dec.{ltb, eqb}
 use lib.ListN.{length}
-use lib.Count.{onesIn, trailingZeros}
 use Rattle.bits.specs.Mask.{goodMask, maskLength}
 use Rattle.model.specs.Prefix.{Prefix, wellFormed}
 use Rattle.model.specs.Routes.{Route, find, present, holds, insert, remove, replace, firstOf, nextAfter}

@@ -1,10 +1,9 @@
 -- Document 01, "The bsdi table and its neighbours": the starred examples, one table.
 use Prim.Native.Nat.{ℕ, _+_, _*_}
-use mathlib.Core.List.{List, [], _∷_, map}
+use mathlib.Core.List.{List, [], _∷_}
 use mathlib.Core.Option.{some}
-use Rattle.model.specs.Prefix.{Prefix}
 use Rattle.model.specs.Routes.{Route, insert, remove}
-use Rattle.model.specs.State.{Rules, State, Meaning, closed}
+use Rattle.model.specs.State.{Meaning, closed}
 use Rattle.model.specs.Call.{Call, lookup, after, mask, Value, nothing, route, count, number, value}
 use Rattle.model.specs.Ipv4.{Hop, direct, via, reject, ipv4}
 

@@ -1,5 +1,5 @@
 -- The table of document 01: addresses of 32 bits, and hops.
-use Prim.Native.Nat.{ℕ, _+_, _*_}
+use Prim.Native.Nat.{ℕ}
 use mathlib.Core.Bool.{Bool, true, not, _&&_}
 use lib.Dec.{leb, eqb}
 use Rattle.model.specs.Prefix.{Prefix}

@@ -1,7 +1,7 @@
 -- Document 01, "The pool": what a sound pool's state obeys, clause by clause. The rest of that sentence speaks of words and places, and stands with the pool.
-use Prim.Native.Nat.{ℕ, _≤_, _<_}
+use Prim.Native.Nat.{ℕ, _≤_}
 use mathlib.Core.Path.{_≡_}
-use mathlib.Core.Bool.{Bool, true, false, _&&_}
+use mathlib.Core.Bool.{true, false}
 use mathlib.Core.List.{List, [], _∷_}
 use lib.ListN.{length}
 use Rattle.model.specs.Prefix.{Prefix, wellFormed}

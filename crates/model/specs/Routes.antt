@@ -1,6 +1,5 @@
 -- A table's routes: a list strictly in walk order. So the same set of routes is the same list, and "no two routes have the same prefix".
 -- P is what a route holds besides its prefix.
-use Prim.Native.Nat.{ℕ}
 use mathlib.Core.Path.{_≡_}
 use mathlib.Core.Bool.{Bool, true, false, cond}
 use mathlib.Core.List.{List, [], _∷_}

@@ -1,11 +1,11 @@
 -- What a table is at a moment, and the numbers and tests that a table is made with.
 use Prim.Native.Nat.{ℕ, _-_}
-use mathlib.Core.Bool.{Bool, true, false, _&&_}
+use mathlib.Core.Bool.{Bool, true, false}
 use mathlib.Core.List.{List, [], _∷_}
-use mathlib.Core.Option.{Option, none, some}
+use mathlib.Core.Option.{Option}
 use lib.Dec.{eqb}
 use lib.ListN.{length}
-use Rattle.model.specs.Prefix.{Prefix, wellFormed}
+use Rattle.model.specs.Prefix.{Prefix}
 use Rattle.model.specs.Routes.{Route, insert, remove, replace}
 
 -- What is fixed for one kind of table: the width of an address, the largest capacity, the words that a capacity needs, the most changes that may

@@ -1,9 +1,8 @@
 -- That the bit number grows from parent to child follows from the rest of document 01's sentence: leaves that share the bits before a node's own,
 -- and have the same bit there, can only part further on. The clause stands in `NodeObeys` because document 01 states it.
 use Prim.Native.Nat.{ℕ, _<_}
-use mathlib.Core.Path.{_≡_, sym, ap, _∙_}
-use mathlib.Core.Logic.{_⊎_, inl, inr}
-use native.Mathlib.Nat.{le-refl, le-of-lt}
+use mathlib.Core.Path.{_≡_, ap}
+use native.Mathlib.Nat.{le-of-lt}
 use native.Mathlib.Omega.{arith}
 use Rattle.bits.specs.Address.{first, bit}
 use Rattle.bits.proofs.Cases.{Compared, lower, same, higher, compared}

@@ -1,12 +1,12 @@
 -- When a tree is as document 01 says, sentence by sentence.
-use Prim.Native.Nat.{ℕ, suc, _<_, _^_}
+use Prim.Native.Nat.{ℕ, _<_}
 use mathlib.Core.Path.{_≡_}
-use mathlib.Core.Bool.{Bool, true}
+use mathlib.Core.Bool.{true}
 use mathlib.Core.List.{List, [], _∷_}
-use mathlib.Core.Option.{Option, none, some}
+use mathlib.Core.Option.{none, some}
 use lib.ListN.{length}
 use Rattle.bits.specs.Address.{first, bit}
-use Rattle.model.specs.Prefix.{Prefix, wellFormed}
+use Rattle.model.specs.Prefix.{wellFormed}
 use Rattle.patricia.specs.Tree.{Entry, Tree, leaf, node, Root, routeOf, Under}
 
 module _ {P : Type 0} where

@@ -1,7 +1,7 @@
 -- The way down a tree by a destination's bits.
 use Prim.Native.Nat.{ℕ, zero, suc}
 use mathlib.Core.List.{List, [], _∷_}
-use mathlib.Core.Option.{Option, none, some}
+use mathlib.Core.Option.{none, some}
 use Rattle.bits.specs.Address.{bit}
 use Rattle.patricia.specs.Tree.{Tree, leaf, node, Root}
 

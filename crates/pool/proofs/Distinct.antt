@@ -1,16 +1,15 @@
 -- No place stands twice in a tree that obeys: a route place has one prefix, and an inner place one part of the tree.
-use Prim.Native.Nat.{ℕ, zero, suc, _+_, _≤_, _<_}
+use Prim.Native.Nat.{ℕ, suc, _+_, _<_}
 use mathlib.Core.Path.{_≡_, refl, sym, ap, subst, _∙_}
 use mathlib.Core.List.{List, [], _∷_, _++_}
 use mathlib.Core.Logic.{_⊎_, inl, inr, ⊎-elim}
 use native.Mathlib.Omega.{arith}
-use Rattle.bits.specs.Address.{bit}
-use Rattle.patricia.specs.Tree.{Entry, Tree, leaf, node, Under}
+use Rattle.patricia.specs.Tree.{Entry, leaf, node, Under}
 use Rattle.patricia.specs.Obeys.{Shorter, LongestFirst, Grows}
 use Rattle.patricia.proofs.Form.{Good, Joint, joint-left, joint-right, lowest, lowest-under}
-use Rattle.pool.specs.Layout.{word, seat, nextAt, prefixAt, markAt, leftAt, rightAt}
+use Rattle.pool.specs.Layout.{seat, nextAt, prefixAt, markAt, leftAt, rightAt}
 use Rattle.pool.specs.Link.{toInner}
-use Rattle.pool.specs.Holds.{Seat, Seated, bareEntries, bare, InPlace, Chain, Holds, chainPlaces, routePlaces, innerPlaces}
+use Rattle.pool.specs.Holds.{Seat, Seated, bareEntries, bare, Chain, Holds, chainPlaces, routePlaces, innerPlaces}
 use Rattle.pool.specs.Means.{Among}
 use Rattle.pool.proofs.Unique.{holds-unique}
 use Rattle.pool.proofs.Frame.{append-among}

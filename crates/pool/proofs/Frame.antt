@@ -1,20 +1,13 @@
 -- Words that agree hold the same: what a tree, a list of changes and a meaning look at.
-use Prim.Native.Nat.{ℕ, zero, suc, _+_, _*_, _≤_, _<_}
-use mathlib.Core.Path.{_≡_, refl, sym, ap, ap₂, subst, _∙_}
+use Prim.Native.Nat.{ℕ, _+_, _≤_, _<_}
+use mathlib.Core.Path.{_≡_, refl, sym, subst, _∙_}
 use mathlib.Core.List.{List, [], _∷_, _++_}
 use mathlib.Core.Logic.{_⊎_, inl, inr}
-use mathlib.Core.Option.{Option, none, some}
-use native.Mathlib.Nat.{le-trans}
-use native.Mathlib.Omega.{arith}
-use lib.ListN.{length, take, length-take}
-use lib.Seq.{getD-take, length-take-le}
-use Rattle.model.specs.Ipv4.{Hop}
-use Rattle.model.specs.State.{Change, added, deleted, changed, Trial, closed, opened, State}
-use Rattle.patricia.specs.Tree.{Entry, Tree, leaf, node, Root}
-use Rattle.pool.specs.Layout.{word, size, seat, joint, slot, nextAt, kindAt, hopFrom, hopAt, prefixAt, markAt, leftAt, rightAt, capacityIn, countIn, rootIn, trialIn, standingIn, actionAt}
-use Rattle.pool.specs.Link.{toRoute, toInner}
-use Rattle.pool.specs.Holds.{Seat, Seated, InPlace, Chain, Holds, HoldsRoot, chainPlaces, routePlaces, innerPlaces}
-use Rattle.pool.specs.Means.{KindKnown, Records, Recorded, TrialThere, Among, routesUsed, innersUsed, Means}
+use lib.ListN.{length}
+use Rattle.patricia.specs.Tree.{Entry, leaf, node}
+use Rattle.pool.specs.Layout.{word, seat, joint, nextAt, hopFrom, hopAt, leftAt, rightAt}
+use Rattle.pool.specs.Holds.{Seat, Seated, InPlace, Chain, Holds, chainPlaces, routePlaces, innerPlaces}
+use Rattle.pool.specs.Means.{Among}
 
 -- the six words of a route place agree
 pub record RouteSame (ws zs : List ℕ) (i : ℕ) : Type 0 where

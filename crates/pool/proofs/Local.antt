@@ -1,19 +1,19 @@
 -- "Words past that size are never read": a pool's meaning depends on its own words alone.
-use Prim.Native.Nat.{ℕ, zero, suc, _+_, _*_, _≤_, _<_}
-use mathlib.Core.Path.{_≡_, refl, sym, ap, subst, _∙_}
+use Prim.Native.Nat.{ℕ, zero, suc, _+_, _≤_, _<_}
+use mathlib.Core.Path.{_≡_, sym, ap, subst, _∙_}
 use mathlib.Core.List.{List, [], _∷_}
 use mathlib.Core.Logic.{_↔_}
-use mathlib.Core.Option.{Option, none, some}
-use native.Mathlib.Nat.{le-trans, le-of-lt, le-of-eq, le-refl}
+use mathlib.Core.Option.{none, some}
+use native.Mathlib.Nat.{le-trans, le-of-eq, le-refl}
 use native.Mathlib.Omega.{arith}
 use lib.ListN.{length, take}
 use lib.Seq.{getD-take, length-take-le}
 use Rattle.model.specs.Ipv4.{Hop}
 use Rattle.model.specs.State.{Change, added, deleted, changed, Trial, closed, opened, State, changes}
 use Rattle.patricia.specs.Tree.{Root}
-use Rattle.pool.specs.Layout.{word, size, seat, joint, slot, kindAt, markAt, hopAt, prefixAt, standingIn}
-use Rattle.pool.specs.Holds.{Seat, Seated, Holds, HoldsRoot}
-use Rattle.pool.specs.Means.{KindKnown, Records, Recorded, TrialThere, Among, routesUsed, innersUsed, Means}
+use Rattle.pool.specs.Layout.{word, size, seat, joint, slot, hopAt, prefixAt, standingIn}
+use Rattle.pool.specs.Holds.{Seat, HoldsRoot}
+use Rattle.pool.specs.Means.{KindKnown, Records, Recorded, TrialThere, Means}
 use Rattle.pool.proofs.Frame.{RouteSame, InnerSame, hop-same, holds-frame, routes-in-pool, inners-in-pool}
 
 -- the first n words agree

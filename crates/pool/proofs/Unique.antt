@@ -1,16 +1,15 @@
 -- The words mean at most one thing: one tree at a link, one list of changes, one state.
-use Prim.Native.Nat.{ℕ, zero, suc, _+_, _≤_, _<_}
+use Prim.Native.Nat.{ℕ, zero, suc, _+_}
 use mathlib.Core.Path.{_≡_, refl, sym, ap, ap₂, subst, _∙_}
 use mathlib.Core.List.{List, [], _∷_}
-use mathlib.Core.Option.{Option, none, some}
+use mathlib.Core.Option.{none, some}
 use native.Mathlib.Nat.{suc-inj}
 use native.Mathlib.Omega.{arith}
-use Rattle.model.specs.Prefix.{Prefix}
 use Rattle.model.specs.Routes.{Route}
 use Rattle.model.specs.Ipv4.{Hop}
 use Rattle.model.specs.State.{Change, added, deleted, changed, Trial, closed, opened, State}
-use Rattle.patricia.specs.Tree.{Entry, Tree, leaf, node, Root, rootRoutes}
-use Rattle.pool.specs.Layout.{word, seat, slot, nextAt, hopAt, prefixAt, markAt, leftAt, rightAt, trialIn, standingIn}
+use Rattle.patricia.specs.Tree.{Entry, leaf, node, Root, rootRoutes}
+use Rattle.pool.specs.Layout.{word, seat, nextAt, hopAt, prefixAt, markAt, leftAt, rightAt, standingIn}
 use Rattle.pool.specs.Link.{toRoute, toInner}
 use Rattle.pool.specs.Holds.{Seat, Seated, bareRoot, InPlace, Chain, Holds, HoldsRoot}
 use Rattle.pool.specs.Means.{Records, Recorded, TrialThere, Means}

@@ -1,15 +1,12 @@
 -- How the code's tests on words come to the definitions.
-use Prim.Native.Nat.{ℕ, zero, suc, _+_, _-_, _*_, _/_, _%_}
-use mathlib.Core.Path.{_≡_, refl, sym, ap, _∙_}
+use Prim.Native.Nat.{ℕ, zero, suc, _+_, _-_, _/_, _%_}
+use mathlib.Core.Path.{_≡_, refl, ap, _∙_}
 use mathlib.Core.List.{List}
 use native.Mathlib.Omega.{arith}
 use borrow.Author.Tests.{eq-eqb, ne-eqb}
-use lib.Dec.{eqb}
-use lib.ListN.{getD}
-use Rattle.model.specs.Ipv4.{Hop, direct, via, reject}
+use Rattle.model.specs.Ipv4.{direct, via, reject}
 use Rattle.pool.specs.Layout.{word, hopFrom, hopAt}
 use Rattle.pool.specs.Link.{linkFrom, toRoute, toInner}
-use Rattle.pool.specs.declared.link.Link.{Link}
 use Rattle.pool.specs.declared.link.Link.the-variants.{Nothing, Route, Inner}
 
 -- ---- hops

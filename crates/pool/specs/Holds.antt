@@ -2,11 +2,10 @@
 use Prim.Native.Nat.{ℕ, suc, _+_, _≤_, _<_}
 use mathlib.Core.Path.{_≡_}
 use mathlib.Core.List.{List, [], _∷_, _++_}
-use mathlib.Core.Option.{Option, none, some}
-use Rattle.model.specs.Prefix.{Prefix}
+use mathlib.Core.Option.{none, some}
 use Rattle.model.specs.Ipv4.{Hop}
 use Rattle.patricia.specs.Tree.{Entry, Tree, leaf, node, Root}
-use Rattle.pool.specs.Layout.{word, seat, kindAt, nextAt, hopAt, prefixAt, markAt, leftAt, rightAt}
+use Rattle.pool.specs.Layout.{seat, kindAt, nextAt, hopAt, prefixAt, markAt, leftAt, rightAt}
 use Rattle.pool.specs.Link.{toRoute, toInner}
 
 -- A route's hop, and the place that it is in.

@@ -1,5 +1,5 @@
 -- The lent words, as docs/POOL.md draws them. c is the capacity, i a route place, j an inner place, k a change.
-use Prim.Native.Nat.{ℕ, zero, suc, _+_, _*_, _≤_}
+use Prim.Native.Nat.{ℕ, zero, suc, _+_, _*_}
 use mathlib.Core.List.{List}
 use lib.ListN.{getD, length}
 use Rattle.model.specs.Prefix.{Prefix}

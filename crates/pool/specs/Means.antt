@@ -1,18 +1,17 @@
 -- Document 01: "A pool is sound when ..", clause by clause, and the state that it then means.
 use Prim.Native.Nat.{ℕ, zero, suc, _+_, _≤_, _<_}
 use mathlib.Core.Path.{_≡_}
-use mathlib.Core.List.{List, [], _∷_, _++_}
+use mathlib.Core.List.{List, [], _∷_}
 use mathlib.Core.Logic.{_⊎_}
-use mathlib.Core.Option.{Option, none, some}
+use mathlib.Core.Option.{none, some}
 use lib.ListN.{length}
-use Rattle.model.specs.Routes.{Route}
 use Rattle.model.specs.Ipv4.{Hop}
 use Rattle.model.specs.State.{Change, added, deleted, changed, Trial, closed, opened, State}
 use Rattle.model.specs.Lawful.{Lawful}
 use Rattle.patricia.specs.Tree.{Root, rootRoutes}
 use Rattle.patricia.specs.Obeys.{RootObeys}
 use Rattle.pool.specs.Layout.{word, size, rules, slot, capacityIn, countIn, rootIn, trialIn, standingIn, hopAt, prefixAt, kindAt, markAt, actionAt}
-use Rattle.pool.specs.Holds.{Seat, Seated, bareRoot, routePlaces, innerPlaces, HoldsRoot}
+use Rattle.pool.specs.Holds.{Seat, bareRoot, routePlaces, innerPlaces, HoldsRoot}
 
 -- A hop's kind is one of three.
 abbrev pub KindKnown : List ℕ → ℕ → Type 0

@@ -1,14 +1,14 @@
 -- What each test of the types' functions comes to, over plain values.
-use Prim.Native.Nat.{ℕ, _≤_, _<_, _-_, _^_, _/_}
-use mathlib.Core.Path.{_≡_, refl, sym, ap, _∙_}
-use mathlib.Core.Bool.{Bool, true, false, not, _&&_, _||_, or-false}
-use native.Mathlib.Nat.{sub-self, sub-eq-zero-of-le, le-of-lt, div-one}
+use Prim.Native.Nat.{ℕ, _≤_, _<_, _-_, _^_}
+use mathlib.Core.Path.{_≡_, sym}
+use mathlib.Core.Bool.{Bool, false, not, or-false}
+use native.Mathlib.Nat.{sub-eq-zero-of-le, le-of-lt, div-one}
 use native.Mathlib.Omega.{arith}
 use borrow.Author.Tests.{le-leb, lt-leb, lt-ltb, le-ltb, eq-eqb, ne-eqb}
-use lib.Dec.{leb, ltb, eqb}
+use lib.Dec.{ltb, eqb}
 use Rattle.bits.specs.Address.{first, clear}
 use Rattle.model.specs.Prefix.{Prefix, wellFormed, matches, before, same}
-use Rattle.model.specs.Ipv4.{direct, via, reject, goodHop}
+use Rattle.model.specs.Ipv4.{via, goodHop}
 
 -- ---- hops
 

@@ -1,15 +1,14 @@
 -- What a mask's answer comes to: each answer below, taken for the one above it.
 use Prim.Native.Nat.{ℕ}
 use mathlib.Core.Path.{_≡_, refl}
-use mathlib.Core.Bool.{Bool, true, false, cond}
-use Rattle.bits.specs.Mask.{goodMask, maskLength}
+use mathlib.Core.Bool.{Bool, true, false}
+use Rattle.bits.specs.Mask.{goodMask}
 use Rattle.bits.specs.Answer.{maskAnswer}
 use Rattle.bits.specs.declared.MaskAnswer.{MaskAnswer}
 use Rattle.bits.specs.declared.MaskAnswer.the-variants.{Length, Holed}
 use Rattle.route.specs.Masks.{measuredAs, maskedAs}
 use Rattle.route.specs.declared.answer.Refusal.the-variants.{BadPrefix}
 use Rattle.route.specs.declared.answer.Measured as measured
-use Rattle.route.specs.declared.answer.Refusal.{Refusal}
 use Rattle.route.specs.declared.answer.Masked as masked
 
 abbrev pub ofMask : MaskAnswer → measured.Measured

@@ -1,21 +1,18 @@
 -- What each reading call answers.
-use Prim.Native.Nat.{ℕ, zero, suc, _+_, _-_, _≤_}
-use mathlib.Core.Path.{_≡_, refl, sym, ap, ap₂, subst, _∙_}
-use mathlib.Core.Bool.{Bool, true, false, not, cond}
+use Prim.Native.Nat.{ℕ, _-_}
+use mathlib.Core.Path.{_≡_, refl, sym, ap, subst}
+use mathlib.Core.Bool.{Bool, true, false}
 use mathlib.Core.List.{List}
-use mathlib.Core.Option.{Option, none, some}
-use native.Mathlib.Omega.{arith}
-use lib.ListN.{length}
-use Rattle.bits.specs.Mask.{goodMask, maskLength}
+use Rattle.bits.specs.Mask.{goodMask}
 use Rattle.model.specs.Ipv4.{Hop}
-use Rattle.model.specs.State.{State, Meaning}
-use Rattle.model.specs.Call.{Call, room, mask, Value, nothing, count, number, value, next}
-use Rattle.pool.specs.Layout.{word, rules, size, capacityIn}
-use Rattle.pool.specs.Means.{Means, Sound}
+use Rattle.model.specs.State.{State}
+use Rattle.model.specs.Call.{room, mask, count}
+use Rattle.pool.specs.Layout.{word, size, capacityIn}
+use Rattle.pool.specs.Means.{Means}
 use Rattle.route.specs.Answers.{measuredNumber, measuredValue}
 use Rattle.route.specs.Masks.{measuredAs}
 use Rattle.route.specs.declared.answer.Measured.{Measured}
-use Rattle.table.specs.Promise.{Meant, Promise}
+use Rattle.table.specs.Promise.{Promise}
 use Rattle.table.proofs.Promises.{answers}
 
 -- "Room left is the capacity less the routes held."

@@ -1,23 +1,22 @@
 -- A call that changes the pool: from its tests and its work in the pool's own words to its promise.
-use Prim.Native.Nat.{ℕ, zero, suc, _+_, _-_, _≤_, _<_}
+use Prim.Native.Nat.{ℕ, _+_, _-_, _≤_}
 use mathlib.Core.Path.{_≡_, refl, sym, ap, subst, _∙_}
 use mathlib.Core.Bool.{Bool, true, cond}
 use mathlib.Core.List.{List, _++_}
-use mathlib.Core.Option.{Option, none, some}
-use native.Mathlib.Nat.{le-trans, le-of-eq}
+use mathlib.Core.Option.{some}
+use native.Mathlib.Nat.{le-trans}
 use native.Mathlib.Omega.{arith}
 use lib.Dec.{eqb}
 use lib.ListN.{length, getD, take, drop, List·getD-append}
 use lib.Seq.{length-take-le, length-front, getD-append-add, getD-drop}
 use Rattle.model.specs.Ipv4.{Hop}
-use Rattle.model.specs.State.{State, Meaning}
-use Rattle.model.specs.Call.{Call, Value, nothing, number, accepted, shown, value, next}
+use Rattle.model.specs.Call.{Call, nothing, accepted, shown}
 use Rattle.pool.specs.Layout.{word, rules, size, capacityIn}
 use Rattle.pool.specs.Means.{Means}
 use Rattle.pool.proofs.Local.{means-frame}
 use Rattle.route.specs.Answers.{refusalNumber}
 use Rattle.route.specs.declared.answer.Refusal.{Refusal}
-use Rattle.apply.specs.Does.{Accepts, Accepted, Does}
+use Rattle.apply.specs.Does.{Accepted, Does}
 use Rattle.table.specs.Promise.{Meant, Promise}
 use Rattle.table.specs.Own.{OwnRight}
 use Rattle.table.specs.declared.own.Own.the-variants.{Capacity}

@@ -1,30 +1,30 @@
 -- What a lookup and the walk answer, from what the search says of the pool's own words.
-use Prim.Native.Nat.{ℕ, zero, suc, _+_, _≤_}
-use mathlib.Core.Path.{_≡_, refl, sym, ap, subst, _∙_}
-use mathlib.Core.Bool.{Bool, true, false, not, cond, true≢false}
+use Prim.Native.Nat.{ℕ}
+use mathlib.Core.Path.{_≡_, refl, sym, subst, _∙_}
+use mathlib.Core.Bool.{Bool, true, false, not, cond}
 use mathlib.Core.List.{List}
 use mathlib.Core.Option.{Option, none, some}
 use native.Mathlib.Omega.{arith}
-use lib.ListN.{length, take}
+use lib.ListN.{take}
 use Rattle.model.specs.Prefix.{Prefix, wellFormed}
 use Rattle.model.specs.Routes.{Route, present, firstOf, nextAfter}
 use Rattle.model.specs.Match.{best}
 use Rattle.model.specs.Ipv4.{Hop}
 use Rattle.model.specs.State.{State, Meaning}
-use Rattle.model.specs.Call.{Call, lookup, first, after, Value, nothing, route, found, firstDue, number, accepted, value, next}
+use Rattle.model.specs.Call.{Call, first, after, nothing, found, number, accepted, value, next}
 use Rattle.patricia.specs.Tree.{Root, rootRoutes}
 use Rattle.patricia.proofs.Form.{RootGood, root-obeys-good}
-use Rattle.pool.specs.Layout.{word, rules, size, capacityIn, rootIn}
+use Rattle.pool.specs.Layout.{rules, size, capacityIn, rootIn}
 use Rattle.pool.specs.Holds.{Seat, bareRoot, HoldsRoot}
-use Rattle.pool.specs.Means.{Means, Sound}
-use Rattle.route.specs.Answers.{foundNumber, foundValue, refusalNumber}
+use Rattle.pool.specs.Means.{Means}
+use Rattle.route.specs.Answers.{foundNumber, foundValue}
 use Rattle.route.specs.declared.answer.Found.{Found}
 use Rattle.search.specs.Says.{Says}
 use Rattle.search.specs.Climb.{Looks}
 use Rattle.search.specs.Walk.{Firsts, Nexts}
 use Rattle.table.specs.Own.{OwnRight}
 use Rattle.table.specs.Promise.{Meant, Promise, LookupPromise}
-use Rattle.table.specs.declared.own.Own.the-variants.{Capacity, Short}
+use Rattle.table.specs.declared.own.Own.the-variants.{Capacity}
 use Rattle.table.proofs.Promises.{promise-of, meant-one, refuses-sound}
 use Rattle.table.proofs.Lent.{own-sound}
 

@@ -1,21 +1,19 @@
 -- The pool's own words, and the whole pool tested.
-use Prim.Native.Nat.{ℕ, zero, suc, _+_, _*_, _≤_, _<_}
-use mathlib.Core.Path.{_≡_, refl, sym, ap, subst, _∙_}
+use Prim.Native.Nat.{ℕ, _≤_}
+use mathlib.Core.Path.{_≡_, sym, _∙_}
 use mathlib.Core.Bool.{Bool, true, false, true≢false}
 use mathlib.Core.List.{List}
 use mathlib.Core.Logic.{_↔_}
-use native.Mathlib.Nat.{le-refl, le-of-eq, le-trans}
 use native.Mathlib.Omega.{arith}
 use lib.ListN.{length, take}
 use lib.Seq.{length-take-le}
 use Rattle.model.specs.Ipv4.{Hop}
 use Rattle.model.specs.State.{State}
-use Rattle.pool.specs.Layout.{word, size, capacityIn}
+use Rattle.pool.specs.Layout.{size}
 use Rattle.pool.specs.Means.{Means, Sound}
 use Rattle.pool.proofs.Local.{means-part}
-use Rattle.table.specs.Own.{OwnRight, TestedRight}
-use Rattle.table.specs.declared.own.Own.{Own}
-use Rattle.table.specs.declared.own.Own.the-variants.{Capacity, Short}
+use Rattle.table.specs.Own.{OwnRight}
+use Rattle.table.specs.declared.own.Own.the-variants.{Capacity}
 
 -- the own words of a pool of capacity c fit it
 pub own-fits : (ws : List ℕ) (c n : ℕ) → OwnRight ws (Capacity c) → n ≡ size c → (c ≤ 65535) × (length (take n ws) ≡ size c)

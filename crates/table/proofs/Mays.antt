@@ -1,8 +1,8 @@
 -- Whether a call may go on: each line of document 01's numbers, from the tests before it.
-use Prim.Native.Nat.{ℕ, zero, suc, _+_, _≤_, _<_}
-use mathlib.Core.Path.{_≡_, refl, sym, ap, ap₂, subst, _∙_}
-use mathlib.Core.Bool.{Bool, true, false, not, _&&_}
-use mathlib.Core.List.{List, [], _∷_}
+use Prim.Native.Nat.{ℕ}
+use mathlib.Core.Path.{_≡_, refl, sym, ap, subst, _∙_}
+use mathlib.Core.Bool.{Bool, true, false, _&&_}
+use mathlib.Core.List.{List}
 use mathlib.Core.Option.{Option, none, some}
 use native.Mathlib.Omega.{arith}
 use lib.Dec.{eqb}
@@ -10,18 +10,15 @@ use lib.ListN.{length, take}
 use Rattle.model.specs.Prefix.{Prefix, wellFormed}
 use Rattle.model.specs.Routes.{Route, holds, find, present}
 use Rattle.model.specs.Ipv4.{Hop, mayHold, goodHop}
-use Rattle.model.specs.State.{State, Meaning, Trial, closed, opened, isOpen, changes, full}
+use Rattle.model.specs.State.{State, Trial, closed, opened, isOpen, changes, full}
 use Rattle.model.specs.Call.{Call, add, delete, change, openTrial, keep, backOut, stepBack, number, trialFull}
 use Rattle.model.proofs.Numbers.{asks, unsound-gives-9}
-use Rattle.patricia.specs.Tree.{Root, rootRoutes}
-use Rattle.pool.specs.Layout.{word, rules, size, trialIn, standingIn, rootIn}
-use Rattle.pool.specs.Holds.{Seat, bareRoot, Holds, HoldsRoot, bare, routePlaces}
-use Rattle.pool.specs.Means.{Means, Sound, TrialThere}
+use Rattle.pool.specs.Layout.{word, rules, size, standingIn}
+use Rattle.pool.specs.Means.{Means, TrialThere}
 use Rattle.pool.proofs.Local.{recorded-length}
 use Rattle.route.specs.Answers.{refusalNumber}
 use Rattle.route.specs.declared.answer.Refusal.{Refusal}
 use Rattle.route.specs.declared.answer.Refusal.the-variants as why
-use Rattle.table.specs.Promise.{Meant}
 use Rattle.table.specs.Own.{TestedRight}
 use Rattle.table.specs.declared.own.Verdict.the-variants as verdict
 use Rattle.table.specs.May.{Tells, MayRight}

@@ -1,17 +1,17 @@
 -- "Every answer is to be pinned down": any two outcomes that a call's promise allows agree.
-use Prim.Native.Nat.{ℕ, _≤_, _<_}
+use Prim.Native.Nat.{ℕ, _≤_}
 use mathlib.Core.Path.{_≡_, refl, sym, _∙_}
 use mathlib.Core.List.{List}
 use mathlib.Core.Bool.{Bool, true, false}
-use mathlib.Core.Option.{Option, none, some}
+use mathlib.Core.Option.{none, some}
 use borrow.Author.Tests.{eqb-true, eqb-false}
 use lib.Dec.{eqb}
 use lib.ListN.{length}
 use Rattle.model.specs.Ipv4.{Hop}
-use Rattle.model.specs.State.{State, Meaning}
+use Rattle.model.specs.State.{Meaning}
 use Rattle.model.specs.Call.{Call, Value, next}
 use Rattle.pool.specs.Layout.{word, rules}
-use Rattle.pool.specs.Means.{Means, Sound}
+use Rattle.pool.specs.Means.{Sound}
 use Rattle.table.specs.Promise.{Meant, Promise}
 use Rattle.table.proofs.Promises.{meant-one, meant-none}
 

@@ -1,4 +1,3 @@
-use Rattle.edit.specs.Encodes.{ToPut}
 use Rattle.apply.proofs.Made.{add-to-put, add-slot, add-does}
 use borrow.Author.Needs.{needs}
 use Rattle.apply.proofs.make.add.Statement.{statement}

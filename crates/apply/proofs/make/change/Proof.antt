@@ -1,4 +1,3 @@
-use Rattle.edit.specs.Encodes.{ToTake}
 use Rattle.apply.proofs.Made.{change-to-take, change-slot, change-does}
 use borrow.Author.Needs.{needs}
 use Rattle.apply.proofs.make.change.Statement.{statement}

@@ -1,4 +1,3 @@
-use Rattle.edit.specs.Encodes.{ToTake}
 use Rattle.apply.proofs.Made.{delete-to-take, delete-slot, delete-does}
 use borrow.Author.Needs.{needs}
 use Rattle.apply.proofs.make.delete.Statement.{statement}

@@ -2,7 +2,7 @@ use Rattle.pool.specs.Layout.{word}
 use Prim.Native.Nat.{ℕ, _+_}
 use mathlib.Core.Path.{ap, _∙_}
 use native.Mathlib.Omega.{arith}
-use lib.ListN.{length, set, length-set}
+use lib.ListN.{set, length-set}
 use Rattle.route.specs.Means.{routeOf}
 use Rattle.edit.specs.Writes.{routeWrites}
 use Rattle.edit.proofs.Rows.{two-more}

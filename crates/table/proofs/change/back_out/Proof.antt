@@ -1,5 +1,4 @@
 use mathlib.Core.Path.{refl, sym, subst, _∙_}
-use native.Mathlib.Omega.{arith}
 use borrow.Author.Needs.{needs}
 use Rattle.model.specs.Call.{backOut}
 use Rattle.table.specs.May.{MayRight}
