@@ -21,7 +21,8 @@ use Rattle.pool.specs.Holds.{Seat, Seated, bare, chainPlaces, routePlaces, inne
 use Rattle.pool.specs.Means.{routesUsed, innersUsed}
 use Rattle.pool.proofs.Unique.{holds-unique, not-nothing}
 use Rattle.audit.specs.Chain.{LeafFine}
-use Rattle.audit.specs.Tree.{Past, TreeFine, Spans, Counted, TreeSays, JoinFine, JoinSays, RootFine}
+use Rattle.search.specs.Seen.{Starts}
+use Rattle.audit.specs.Tree.{TreeFine, Spans, Counted, TreeSays, JoinFine, JoinSays, RootFine}
 use Rattle.audit.specs.declared.tree.Span.{Span}
 use Rattle.audit.specs.declared.tree.TreeAudit.{TreeAudit}
 
@@ -77,11 +78,11 @@ pub record InnerFine (c : ℕ) (ws : List ℕ) (low j : ℕ) (l r : Seated) : Ty
   pub left : All (λ x. first 32 (markAt c ws j) x ≡ 2 * value) (bare l)
   pub right : All (λ x. first 32 (markAt c ws j) x ≡ 2 * value + 1) (bare r)
 
-grows-past : (b : ℕ) (t : Seated) → Grows b (bare t) → Past (suc b) t
+grows-past : (b : ℕ) (t : Seated) → Grows b (bare t) → Starts (suc b) t
 grows-past b (leaf a es) g = tt
 grows-past b (node j d l r) g = g
 
-past-grows : (b : ℕ) (t : Seated) → Past (suc b) t → Grows b (bare t)
+past-grows : (b : ℕ) (t : Seated) → Starts (suc b) t → Grows b (bare t)
 past-grows b (leaf a es) g = tt
 past-grows b (node j d l r) g = g
 
@@ -107,8 +108,8 @@ module _ (c : ℕ) (ws : List ℕ) where
             inPool = f .holds .1;
             later = subst (λ (m : ℕ). low < m) mark (omega arith);
             within = subst (λ (m : ℕ). m ≤ 32) mark (omega arith);
-            leftFine = record { holds = f .holds .3; form = f .form .1; past = subst (λ (m : ℕ). Past m l) mark (grows-past b l (g .0 .growsLeft)); obey = o .0 };
-            rightFine = record { holds = f .holds .4; form = f .form .2; past = subst (λ (m : ℕ). Past m r) mark (grows-past b r (g .0 .growsRight)); obey = o .1 };
+            leftFine = record { holds = f .holds .3; form = f .form .1; past = subst (λ (m : ℕ). Starts m l) mark (grows-past b l (g .0 .growsLeft)); obey = o .0 };
+            rightFine = record { holds = f .holds .4; form = f .form .2; past = subst (λ (m : ℕ). Starts m r) mark (grows-past b r (g .0 .growsRight)); obey = o .1 };
             value = g .0 .value;
             left = subst (λ (m : ℕ). All (λ x. first 32 m x ≡ 2 * g .0 .value) (bare l)) mark (g .0 .left);
             right = subst (λ (m : ℕ). All (λ x. first 32 m x ≡ 2 * g .0 .value + 1) (bare r)) mark (g .0 .right);
@@ -122,8 +123,8 @@ module _ (c : ℕ) (ws : List ℕ) where
         within = subst (λ (m : ℕ). m ≤ 32) back (f .within);
         left = subst (λ (m : ℕ). All (λ x. first 32 m x ≡ 2 * f .value) (bare l)) back (f .left);
         right = subst (λ (m : ℕ). All (λ x. first 32 m x ≡ 2 * f .value + 1) (bare r)) back (f .right);
-        growsLeft = past-grows b l (subst (λ (m : ℕ). Past m l) back (f .leftFine .past));
-        growsRight = past-grows b r (subst (λ (m : ℕ). Past m r) back (f .rightFine .past));
+        growsLeft = past-grows b l (subst (λ (m : ℕ). Starts m l) back (f .leftFine .past));
+        growsRight = past-grows b r (subst (λ (m : ℕ). Starts m r) back (f .rightFine .past));
       } in
       record {
         holds = (e, f .inPool, back, f .leftFine .holds, f .rightFine .holds);
@@ -251,7 +252,7 @@ pub root-fine : (c : ℕ) (ws : List ℕ) (link n m least greatest : ℕ) → li
 root-fine c ws link n m least greatest e (t, f, s, k) =
     (some t, record { holds = subst (λ (x : ℕ). Holds c ws x t) e (f .holds); form = f .form; obey = f .obey }, k .routesThere, k .innersThere)
 
-past-none : (t : Seated) → Past 0 t
+past-none : (t : Seated) → Starts 0 t
 past-none (leaf a es) = tt
 past-none (node j b l r) = omega arith
 

@@ -23,7 +23,8 @@ use Rattle.audit.specs.Tree.{RootFine}
 use Rattle.audit.specs.Marks.{tally, routeUsed, innerUsed}
 use Rattle.audit.specs.Changes.{decoded, ChangesFine, Tabled, BackSays}
 use Rattle.audit.proofs.Tally.{tally-le, passes, passed, has-all, all-there}
-use Rattle.audit.proofs.Places.{routes-picked, inners-picked, route-count}
+use Rattle.pool.proofs.Places.{route-count}
+use Rattle.audit.proofs.Places.{routes-picked, inners-picked}
 use Rattle.audit.proofs.Recording.{decoded-length, recorded-is, fine-recorded, recorded-fine}
 use Rattle.audit.proofs.Turning.{tabled-order}
 

@@ -28,7 +28,8 @@ use Rattle.search.specs.declared.exact.Spot.the-variants.{At, Absent, Damaged}
 use Rattle.audit.specs.Changes.{changeFrom, changedPrefix, changeAt, decoded, Tabled, back, Took, atTurn, ThereSays, TakenSays}
 use Rattle.audit.specs.declared.changes.Taken.{Taken}
 use Rattle.audit.proofs.Recording.{change-is}
-use Rattle.audit.proofs.Undoing.{prefixOf, leaves, undo-other, undo-same, undo-order, undo-add-length, undo-delete-length, undo-change-length}
+use Rattle.model.proofs.Lawful.{undo-order}
+use Rattle.audit.proofs.Undoing.{prefixOf, leaves, undo-other, undo-same, undo-add-length, undo-delete-length, undo-change-length}
 
 -- whether a prefix was found
 abbrev pub isAt : Spot → Bool

@@ -10,7 +10,7 @@ use Rattle.model.specs.Routes.{Route, InOrder, find, present, holds, insert, re
 use Rattle.model.specs.State.{Change, added, deleted, changed, undo}
 use Rattle.model.specs.Lawful.{CanUndo}
 use Rattle.model.proofs.Order.{same-true}
-use Rattle.model.proofs.Edits.{insert-order, insert-found, length-insert, remove-order, remove-absent, length-remove, replace-order, replace-found, length-replace}
+use Rattle.model.proofs.Edits.{insert-found, length-insert, remove-absent, length-remove, replace-found, length-replace}
 use Rattle.model.proofs.Lawful.{there, absent}
 
 -- another prefix than the one that is the same as q
@@ -69,11 +69,6 @@ module _ {P : Type 0} where
 
   pub undo-same : (p : Prefix) (x : Change P) (l : List (Route P)) → InOrder l → CanUndo x l → same p (prefixOf x) ≡ true → holds p (undo x l) ≡ leaves x
   undo-same p x l o u t = ap (λ (z : Prefix). holds z (undo x l)) (same-true p (prefixOf x) t) ∙ undo-own x l o u
-
-  pub undo-order : (x : Change P) (l : List (Route P)) → InOrder l → CanUndo x l → InOrder (undo x l)
-  undo-order (added r) l o u = remove-order (r .prefix) l o
-  undo-order (deleted r) l o u = insert-order r l o (absent (r .prefix) l u)
-  undo-order (changed p old new) l o u = let w = there p l u in replace-order (record { prefix = p; payload = old }) (w .0) l o (w .1)
 
   -- ---- how many routes are left
 

@@ -6,25 +6,21 @@ use lib.ListN.{length}
 use Rattle.bits.specs.Address.{first}
 use Rattle.model.specs.Ipv4.{Hop}
 use Rattle.model.specs.Lawful.{AllObey}
-use Rattle.patricia.specs.Tree.{Tree, leaf, node, Root, routes, rootRoutes, Under}
+use Rattle.patricia.specs.Tree.{Tree, Root, routes, rootRoutes, Under}
 use Rattle.patricia.specs.Obeys.{Obeys, RootObeys}
 use Rattle.pool.specs.Layout.{rules, rootIn}
+use Rattle.search.specs.Seen.{Starts}
 use Rattle.pool.specs.Holds.{Seat, Seated, bare, bareRoot, routePlaces, innerPlaces, Holds, HoldsRoot}
 use Rattle.pool.specs.Means.{routesUsed, innersUsed}
 use Rattle.audit.specs.declared.tree.Span.{Span}
 use Rattle.audit.specs.declared.tree.TreeAudit.{TreeAudit}
 use Rattle.audit.specs.declared.tree.RootAudit.{RootAudit}
 
--- The tree tests no bit before this one; below its root the bits grow.
-abbrev pub Past : ℕ → Seated → Type 0
-Past low (leaf a es) = Unit {0}
-Past low (node j b l r) = low ≤ b
-
 -- At the link stands this tree, and all that a sound pool asks of it holds.
 pub record TreeFine (c : ℕ) (ws : List ℕ) (link low : ℕ) (t : Seated) : Type 0 where
   pub holds : Holds c ws link t
   pub form : Obeys 32 (bare t)
-  pub past : Past low t
+  pub past : Starts low t
   pub obey : AllObey rules (routes (bare t))
 
 -- The lowest and the highest address under a tree.

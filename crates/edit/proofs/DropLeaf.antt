@@ -26,14 +26,15 @@ use Rattle.pool.proofs.Distinct.{Distinct}
 use Rattle.pool.proofs.Frame.{RouteSame, InnerSame, holds-frame, among-append, append-among, routes-in-pool, inners-in-pool}
 use Rattle.edit.specs.Cells.{cellOf, placeOf, sibling, siblingLink}
 use Rattle.edit.specs.Writes.{writes, lastWrites, dropWrites}
-use Rattle.edit.proofs.Way.{bareWay, bare-plug, HoldsWay, way-plug, plug-way, wayRoutes, wayInners, routes-plug, plug-routes, inners-plug, plug-inners, InnerBut, inner-whole, way-frame}
+use Rattle.search.proofs.Bare.{bareWay, bare-plug, bare-follows}
+use Rattle.edit.proofs.Way.{HoldsWay, way-plug, plug-way, wayRoutes, wayInners, routes-plug, plug-routes, inners-plug, plug-inners, InnerBut, inner-whole, way-frame}
 use Rattle.edit.proofs.Apart.{Asunder, asunder, routes-apart, inners-apart}
 use Rattle.edit.proofs.Chains.{route-whole}
 use Rattle.edit.proofs.Join.{cell-owner}
 use Rattle.edit.proofs.Rehang.{cell-range}
 use Rattle.edit.proofs.Writes.{word-off, word-on}
 use Rattle.edit.proofs.Spared.{Clear, way-cell, cell-clear, route-spared, inner-spared, aside}
-use Rattle.edit.proofs.Stands.{follows-bare, Stands}
+use Rattle.edit.proofs.Stands.{Stands}
 use Rattle.edit.specs.Encodes.{Encodes}
 use Rattle.edit.proofs.Encodes.{encodes-edit}
 
@@ -181,7 +182,7 @@ module _ (ws : List ℕ) (s : State Hop) (e : Encodes ws s) (few : length (chang
   bare-dropped =
       let a = p .address in
       ap (takeOut 32 p) (sym (ap bare whole) ∙ bare-plug (d ∷ w) (leaf a (x ∷ [])))
-      ∙ take-plug 32 p (bareWay (d ∷ w)) (leaf a (record { length = x .length; payload = x .payload .hop } ∷ [])) (follows-bare a (d ∷ w) follows)
+      ∙ take-plug 32 p (bareWay (d ∷ w)) (leaf a (record { length = x .length; payload = x .payload .hop } ∷ [])) (bare-follows a (d ∷ w) follows)
       ∙ ap (plugRoot (bareWay (d ∷ w))) gone ∙ step-plug d w ∙ ap some (sym (bare-plug w (sibling d)))
     where
       gone : leafOf {N = ℕ} (p .address) (unhang (p .length) (record { length = x .length; payload = x .payload .hop } ∷ [])) ≡ none

@@ -31,13 +31,14 @@ use Rattle.pool.proofs.Frame.{among-append, append-among}
 use Rattle.edit.specs.Cells.{cellOf, endCell, Longer}
 use Rattle.edit.specs.Writes.{writes, routeWrites, hangWrites}
 use Rattle.edit.specs.Plan.{HangsAt}
-use Rattle.edit.proofs.Way.{bareWay, bare-plug, plug-way, wayRoutes, routes-plug, plug-routes, inners-plug, plug-inners}
+use Rattle.search.proofs.Bare.{bareWay, bare-plug, bare-follows}
+use Rattle.edit.proofs.Way.{plug-way, wayRoutes, routes-plug, plug-routes, inners-plug, plug-inners}
 use Rattle.edit.proofs.Chains.{places-append, chain-split}
 use Rattle.edit.proofs.Rehang.{Rehung, leaf-chain, cell-cases, cell-range, rest-stays, rehung-holds}
 use Rattle.edit.proofs.Writes.{Off, off-append, word-on, on-right}
 use Rattle.edit.proofs.Spared.{Clear, OffSeat, off-route}
 use Rattle.edit.proofs.Touch.{leaf-cell, route-touch, inner-touch, aside-touch, rehung-touch}
-use Rattle.edit.proofs.Stands.{some-there, entryAt, free-new, follows-bare, route-written, next-written, Stands}
+use Rattle.edit.proofs.Stands.{some-there, entryAt, free-new, route-written, next-written, Stands}
 use Rattle.edit.specs.Encodes.{Encodes}
 use Rattle.edit.proofs.Encodes.{encodes-edit}
 
@@ -122,14 +123,14 @@ module _ (ws : List ℕ) (s : State Hop) (e : Encodes ws s) (few : length (chang
       let w = h .way in
       bare-plug w (leaf a (h .longer ++ (entryAt i r ∷ h .shorter)))
       ∙ ap (λ (es : List (Entry Hop)). plug (bareWay w) (leaf a es)) (sym (hang-split (entryAt i r) (h .longer) (h .shorter) (h .longerAre) (shorter-bare (r .prefix .length) (h .shorter) (h .shorterAre))))
-      ∙ sym (hang-plug 32 a (bareEntry (entryAt i r)) (bareWay w) (leaf a (bareEntries (h .longer ++ h .shorter))) (follows-bare a w (h .follows)))
+      ∙ sym (hang-plug 32 a (bareEntry (entryAt i r)) (bareWay w) (leaf a (bareEntries (h .longer ++ h .shorter))) (bare-follows a w (h .follows)))
       ∙ ap (hangAt 32 a (bareEntry (entryAt i r))) (sym (bare-plug w (leaf a (h .longer ++ h .shorter))) ∙ ap bare (h .whole))
 
   reached-here : reached 32 (r .prefix .address) (bare t) ≡ r .prefix .address
   reached-here =
       let a = r .prefix .address in
       ap (reached 32 a) (sym (ap bare (h .whole)) ∙ bare-plug (h .way) (leaf a (h .longer ++ h .shorter)))
-      ∙ reached-plug 32 a (bareWay (h .way)) (leaf a (bareEntries (h .longer ++ h .shorter))) (follows-bare a (h .way) (h .follows))
+      ∙ reached-plug 32 a (bareWay (h .way)) (leaf a (bareEntries (h .longer ++ h .shorter))) (bare-follows a (h .way) (h .follows))
 
   absent : find (r .prefix) (routes (bare t)) ≡ none
   absent = ap (find (r .prefix)) (st .table) ∙ new

@@ -32,13 +32,15 @@ use Rattle.pool.proofs.Frame.{RouteSame, among-append}
 use Rattle.edit.specs.Cells.{cellOf}
 use Rattle.edit.specs.Writes.{writes, routeWrites, innerJoin, joinWrites}
 use Rattle.edit.specs.Plan.{JoinsAt}
-use Rattle.edit.proofs.Way.{bareWay, bare-plug, plug-way, wayRoutes, wayInners, routes-plug, plug-routes, inners-plug, plug-inners, InnerBut}
+use Rattle.pool.proofs.Places.{inner-used}
+use Rattle.search.proofs.Bare.{bareWay, bare-plug, bare-follows}
+use Rattle.edit.proofs.Way.{plug-way, wayRoutes, wayInners, routes-plug, plug-routes, inners-plug, plug-inners, InnerBut}
 use Rattle.edit.proofs.Chains.{route-whole}
 use Rattle.edit.proofs.Join.{Stays, cell-owner, join-holds}
 use Rattle.edit.proofs.Rehang.{cell-range}
 use Rattle.edit.proofs.Writes.{Off, On, off-append, on-left, on-right, word-off, word-on}
 use Rattle.edit.proofs.Spared.{Cell, Clear, way-cell, cell-clear, OffSeat, OffJoint, seats-apart, joints-apart, off-route, off-inner, route-spared, inner-spared, aside}
-use Rattle.edit.proofs.Stands.{entryAt, free-new, inner-used, follows-bare, route-written, next-written, Stands}
+use Rattle.edit.proofs.Stands.{entryAt, free-new, route-written, next-written, Stands}
 use Rattle.edit.specs.Encodes.{Encodes}
 use Rattle.edit.proofs.Encodes.{encodes-edit}
 
@@ -177,7 +179,7 @@ module _ (ws : List ℕ) (s : State Hop) (e : Encodes ws s) (few : length (chang
       let w = h .way in
       bare-plug w (join 32 j k a (entryAt i r) (h .part))
       ∙ ap (plug (bareWay w)) (bare-join j k a (entryAt i r) (h .part) ∙ sym (join-here j k a (bareEntry (entryAt i r)) (h .part) (h .grows)))
-      ∙ sym (put-plug 32 k j a (bareEntry (entryAt i r)) (bareWay w) (bare (h .part)) (follows-bare a w (h .follows)) (not-past-bare k w (h .notPast)))
+      ∙ sym (put-plug 32 k j a (bareEntry (entryAt i r)) (bareWay w) (bare (h .part)) (bare-follows a w (h .follows)) (not-past-bare k w (h .notPast)))
       ∙ ap (putAt 32 k j a (bareEntry (entryAt i r))) (sym (bare-plug w (h .part)) ∙ ap bare (h .whole))
 
   used : (p : ℕ) → p < s .capacity → 1 ≤ kindAt (writes (joinWrites ws (s .capacity) i j r k cell) ws) p → Among p (routePlaces (plug (h .way) (join 32 j k (r .prefix .address) (entryAt i r) (h .part))))

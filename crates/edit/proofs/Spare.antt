@@ -8,11 +8,12 @@ use native.Mathlib.Omega.{arith}
 use lib.ListN.{length, length-append}
 use Rattle.model.specs.Ipv4.{Hop}
 use Rattle.model.specs.State.{State}
-use Rattle.patricia.specs.Tree.{Entry, leaf, node, Root, hung, routes, rootRoutes, leaves, inners}
+use Rattle.patricia.specs.Tree.{leaf, node, Root, routes, rootRoutes, leaves, inners}
 use Rattle.patricia.proofs.Size.{leaves-inners}
 use Rattle.pool.specs.Layout.{rootIn, leftAt, rightAt}
-use Rattle.pool.specs.Holds.{Seat, Seated, bare, bareEntries, bareRoot, chainPlaces, routePlaces, innerPlaces, Holds, HoldsRoot}
+use Rattle.pool.specs.Holds.{Seat, Seated, bare, bareRoot, innerPlaces, Holds, HoldsRoot}
 use Rattle.pool.specs.Means.{Among, routesUsed, innersUsed}
+use Rattle.pool.proofs.Places.{route-count}
 use Rattle.edit.specs.Free.{RouteSpare, InnerSpare}
 use Rattle.edit.specs.Encodes.{Encodes}
 
@@ -30,15 +31,6 @@ every-among (suc n) xs f =
 
 -- ---- how many places a tree has
 
-chain-count : (a : ℕ) (es : List (Entry Seat)) → length (chainPlaces es) ≡ length (hung a (bareEntries es))
-chain-count a [] = refl
-chain-count a (e ∷ es) = ap suc (chain-count a es)
-
-pub routes-count : (t : Seated) → length (routePlaces t) ≡ length (routes (bare t))
-routes-count (leaf a es) = chain-count a es
-routes-count (node j b l r) =
-    omega (arith, length-append (routePlaces l) (routePlaces r), length-append (routes (bare l)) (routes (bare r)), routes-count l, routes-count r)
-
 pub inners-count : (t : Seated) → length (innerPlaces t) ≡ inners (bare t)
 inners-count (leaf a es) = refl
 inners-count (node j b l r) = omega (arith, length-append (innerPlaces l) (innerPlaces r), inners-count l, inners-count r)
@@ -50,10 +42,6 @@ leaves-routes c ws link (leaf a (e ∷ es)) h = omega arith
 leaves-routes c ws link (node j b l r) h =
     omega (arith, length-append (routes (bare l)) (routes (bare r)), leaves-routes c ws (leftAt c ws j) l (h .3), leaves-routes c ws (rightAt c ws j) r (h .4))
 
-routes-used : (t : Root ℕ Seat) → length (routesUsed t) ≡ length (rootRoutes (bareRoot t))
-routes-used none = refl
-routes-used (some t) = routes-count t
-
 inners-used : (c : ℕ) (ws : List ℕ) (link : ℕ) (t : Root ℕ Seat) → HoldsRoot c ws link t → length (innersUsed t) ≤ length (rootRoutes (bareRoot t))
 inners-used c ws link none h = omega arith
 inners-used c ws link (some t) h = omega (arith, inners-count t, leaves-inners (bare t), leaves-routes c ws link t h)
@@ -63,7 +51,7 @@ inners-used c ws link (some t) h = omega (arith, inners-count t, leaves-inners (
 module _ (ws : List ℕ) (s : State Hop) (e : Encodes ws s) (room : length (s .routes) < s .capacity) where
   pub route-spare : RouteSpare (s .capacity) ws
   route-spare f =
-      omega (arith, every-among (s .capacity) (routesUsed (e .tree)) (λ i l. e .routePlacesUsed i l (f i l)), routes-used (e .tree), ap length (e .routesThere))
+      omega (arith, every-among (s .capacity) (routesUsed (e .tree)) (λ i l. e .routePlacesUsed i l (f i l)), route-count (e .tree), ap length (e .routesThere))
 
   pub inner-spare : InnerSpare (s .capacity) ws
   inner-spare f =

@@ -1,26 +1,23 @@
 -- The tree that the words of a state hold, its places, and a route as it is written.
 use Prim.Native.Nat.{ℕ, _+_, _≤_, _<_}
-use mathlib.Core.Path.{_≡_, refl, sym, subst, _∙_}
+use mathlib.Core.Path.{_≡_, refl, subst, _∙_}
 use mathlib.Core.List.{List, [], _∷_, _++_}
-use mathlib.Core.Logic.{_⊎_, inl, inr, ⊎-elim}
+use mathlib.Core.Logic.{inl, inr}
 use mathlib.Core.Option.{some}
 use native.Mathlib.Omega.{arith}
 use lib.ListN.{length}
 use Rattle.model.specs.Routes.{Route}
 use Rattle.model.specs.Ipv4.{Hop, direct, via, reject}
 use Rattle.model.specs.State.{State}
-use Rattle.patricia.specs.Tree.{Entry, leaf, node, Root, routes, rootRoutes}
-use Rattle.patricia.specs.Way.{Step, wentLeft, wentRight}
+use Rattle.patricia.specs.Tree.{Entry, Root, routes, rootRoutes}
 use Rattle.patricia.proofs.Form.{Good, RootGood}
-use Rattle.patricia.proofs.Zip.{Follows}
 use Rattle.pool.specs.Layout.{word, size, seat, kindAt, nextAt, hopFrom, markAt}
 use Rattle.pool.specs.Write.{kindOf, portOf, gatewayOf}
-use Rattle.pool.specs.Holds.{Seat, Seated, bare, InPlace, Chain, Holds, HoldsRoot, bareRoot, chainPlaces, routePlaces, innerPlaces}
+use Rattle.pool.specs.Holds.{Seat, Seated, bare, InPlace, Holds, HoldsRoot, bareRoot, routePlaces, innerPlaces}
 use Rattle.pool.specs.Means.{Among, routesUsed, innersUsed}
 use Rattle.pool.proofs.Distinct.{Distinct, routes-distinct, inners-distinct}
-use Rattle.pool.proofs.Frame.{append-among}
+use Rattle.pool.proofs.Places.{route-used}
 use Rattle.edit.specs.Writes.{Write, writes, routeWrites}
-use Rattle.edit.proofs.Way.{bareWay}
 use Rattle.edit.proofs.Writes.{Off, On, word-on, on-left}
 use Rattle.edit.specs.Encodes.{Encodes}
 
@@ -40,31 +37,9 @@ hop-back (direct p) = refl
 hop-back (via p g) = refl
 hop-back reject = refl
 
--- what stands in a place of the tree is used
-chain-used : (c : ℕ) (ws : List ℕ) (a link : ℕ) (es : List (Entry Seat)) → Chain c ws a link es → (i : ℕ) → Among i (chainPlaces es) → 1 ≤ kindAt ws i
-chain-used c ws a link (e ∷ es) h i (inl p) = subst (λ (n : ℕ). 1 ≤ kindAt ws n) (sym p) (h .1 .used)
-chain-used c ws a link (e ∷ es) h i (inr k) = chain-used c ws a (nextAt ws (e .payload .place)) es (h .2) i k
-
-pub place-used : (c : ℕ) (ws : List ℕ) (link : ℕ) (t : Seated) → Holds c ws link t → (i : ℕ) → Among i (routePlaces t) → 1 ≤ kindAt ws i
-place-used c ws link (leaf a []) h i k = absurd k
-place-used c ws link (leaf a (e ∷ es)) h i k = chain-used c ws a link (e ∷ es) h i k
-place-used c ws link (node j b l r) h i k =
-    ⊎-elim (λ u. place-used c ws _ l (h .3) i u) (λ u. place-used c ws _ r (h .4) i u) (append-among i (routePlaces l) (routePlaces r) k)
-
-pub inner-used : (c : ℕ) (ws : List ℕ) (link : ℕ) (t : Seated) → Holds c ws link t → (i : ℕ) → Among i (innerPlaces t) → 1 ≤ markAt c ws i
-inner-used c ws link (leaf a es) h i k = absurd k
-inner-used c ws link (node j b l r) h i (inl e) = subst (λ (n : ℕ). 1 ≤ markAt c ws n) (sym e) (omega (arith, h .2))
-inner-used c ws link (node j b l r) h i (inr k) =
-    ⊎-elim (λ u. inner-used c ws _ l (h .3) i u) (λ u. inner-used c ws _ r (h .4) i u) (append-among i (innerPlaces l) (innerPlaces r) k)
-
 -- a free place is not in the tree
 pub free-new : (c : ℕ) (ws : List ℕ) (link : ℕ) (t : Seated) → Holds c ws link t → (i : ℕ) → kindAt ws i ≡ 0 → Among i (routePlaces t) → ⊥
-free-new c ws link t h i z k = omega (arith, place-used c ws link t h i k, z)
-
-pub follows-bare : (a : ℕ) (w : List (Step ℕ Seat)) → Follows 32 a w → Follows 32 a (bareWay w)
-follows-bare a [] f = tt
-follows-bare a (wentLeft j b r ∷ w) f = (f .0, follows-bare a w (f .1))
-follows-bare a (wentRight j b l ∷ w) f = (f .0, follows-bare a w (f .1))
+free-new c ws link t h i z k = omega (arith, route-used c ws link t h i k, z)
 
 -- a list with a member is not empty
 pub some-there : (xs : List (Entry Seat)) (y : Entry Seat) (ys : List (Entry Seat)) → xs ++ (y ∷ ys) ≡ [] → ⊥

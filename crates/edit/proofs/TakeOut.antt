@@ -29,13 +29,14 @@ use Rattle.pool.proofs.Frame.{among-append, append-among}
 use Rattle.edit.specs.Cells.{cellOf, Longer}
 use Rattle.edit.specs.Writes.{Write, writes, linkWrites, hopWrites}
 use Rattle.edit.specs.Plan.{HungAt}
-use Rattle.edit.proofs.Way.{bareWay, bare-plug, plug-way, wayRoutes, routes-plug, plug-routes, inners-plug, plug-inners}
+use Rattle.search.proofs.Bare.{bareWay, bare-plug, bare-follows}
+use Rattle.edit.proofs.Way.{plug-way, wayRoutes, routes-plug, plug-routes, inners-plug, plug-inners}
 use Rattle.edit.proofs.Chains.{places-append, chain-split}
 use Rattle.edit.proofs.Rehang.{Rehung, leaf-chain, rest-stays, rehung-holds}
 use Rattle.edit.proofs.Writes.{Off, word-off, word-on}
 use Rattle.edit.proofs.Spared.{Clear, OffSeat}
 use Rattle.edit.proofs.Touch.{leaf-cell, route-touch, inner-touch, aside-touch, rehung-touch}
-use Rattle.edit.proofs.Stands.{some-there, kind-known, hop-back, follows-bare, Stands}
+use Rattle.edit.proofs.Stands.{some-there, kind-known, hop-back, Stands}
 use Rattle.edit.specs.Encodes.{Encodes}
 use Rattle.edit.proofs.Encodes.{encodes-edit}
 
@@ -135,7 +136,7 @@ module _ (ws : List ℕ) (s : State Hop) (e : Encodes ws s) (few : length (chang
     bare-taken =
         let a = p .address in
         ap (takeOut 32 p) (sym (ap bare (h .whole)) ∙ bare-plug (h .way) (leaf a (h .longer ++ (x ∷ h .shorter))))
-        ∙ take-plug 32 p (bareWay (h .way)) (leaf a (bareEntries (h .longer ++ (x ∷ h .shorter)))) (follows-bare a (h .way) (h .follows))
+        ∙ take-plug 32 p (bareWay (h .way)) (leaf a (bareEntries (h .longer ++ (x ∷ h .shorter)))) (bare-follows a (h .way) (h .follows))
         ∙ ap (λ (es : List (Entry Hop)). plugRoot (bareWay (h .way)) (leafOf a es)) (unhang-split (p .length) x (h .longer) (h .shorter) (h .longerAre) (h .lengthIs))
         ∙ ap (plugRoot (bareWay (h .way))) (leaf-left a (h .longer ++ h .shorter) more) ∙ ap some (sym (bare-plug (h .way) (leaf a (h .longer ++ h .shorter))))
 
@@ -204,7 +205,7 @@ module _ (ws : List ℕ) (s : State Hop) (e : Encodes ws s) (few : length (chang
         let y : Entry Seat = record { length = p .length; payload = record { place = x .payload .place; hop = o } } in
         bare-plug (h .way) (leaf a (h .longer ++ (y ∷ h .shorter)))
         ∙ ap (λ (es : List (Entry Hop)). plug (bareWay (h .way)) (leaf a es)) (sym (exchange-split (p .length) y x (h .longer) (h .shorter) (h .longerAre) (h .lengthIs) refl))
-        ∙ sym (swap-plug 32 a be (bareWay (h .way)) (leaf a (bareEntries (h .longer ++ (x ∷ h .shorter)))) (follows-bare a (h .way) (h .follows)))
+        ∙ sym (swap-plug 32 a be (bareWay (h .way)) (leaf a (bareEntries (h .longer ++ (x ∷ h .shorter)))) (bare-follows a (h .way) (h .follows)))
         ∙ ap (swapAt 32 a be) (sym (bare-plug (h .way) (leaf a (h .longer ++ (x ∷ h .shorter)))) ∙ ap bare (h .whole))
 
     pub swap-encodes : Encodes (writes (hopWrites (x .payload .place) o) ws) (withTrial s (replace (record { prefix = p; payload = o }) (s .routes)) (s .trial))

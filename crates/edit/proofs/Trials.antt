@@ -3,7 +3,6 @@ use Prim.Native.Nat.{ℕ, suc, _+_, _*_, _≤_, _<_}
 use mathlib.Core.Path.{_≡_, refl, sym, subst, _∙_}
 use mathlib.Core.List.{List, [], _∷_}
 use mathlib.Core.Logic.{inl, inr}
-use mathlib.Core.Option.{none, some}
 use native.Mathlib.Nat.{le-trans}
 use native.Mathlib.Numerals.{add-one}
 use native.Mathlib.Omega.{arith}
@@ -12,13 +11,12 @@ use Rattle.model.specs.Prefix.{Prefix}
 use Rattle.model.specs.Ipv4.{Hop}
 use Rattle.model.specs.State.{Change, added, deleted, changed, Trial, closed, opened, State}
 use Rattle.model.specs.Call.{withTrial}
-use Rattle.patricia.specs.Tree.{Root}
-use Rattle.pool.specs.Layout.{word, seat, joint, slot, hopAt, hopFrom, prefixAt}
-use Rattle.pool.specs.Holds.{Seat, HoldsRoot}
+use Rattle.pool.specs.Layout.{word, slot, hopAt, hopFrom, prefixAt}
+use Rattle.pool.specs.Holds.{HoldsRoot}
 use Rattle.pool.specs.Means.{KindKnown, Records, Recorded, TrialThere}
 use Rattle.pool.specs.Write.{kindOf, portOf, gatewayOf}
-use Rattle.pool.proofs.Frame.{RouteSame, InnerSame, holds-frame, routes-in-pool, inners-in-pool}
-use Rattle.pool.proofs.Local.{slot-agree, recorded-frame, recorded-length}
+use Rattle.pool.proofs.Frame.{RouteSame, InnerSame}
+use Rattle.pool.proofs.Local.{route-agree, inner-agree, root-frame, slot-agree, recorded-frame, recorded-length}
 use Rattle.edit.specs.Writes.{writes, recordWrites, headWrites}
 use Rattle.edit.proofs.Writes.{On, word-off, word-on, length-writes}
 use Rattle.edit.proofs.Stands.{kind-known, hop-back}
@@ -32,25 +30,10 @@ TableSame c ws zs = (x : ℕ) → x < 8 + 12 * c → (x ≡ 3 → ⊥) → (x �
 
 module _ (c : ℕ) (ws zs : List ℕ) (f : TableSame c ws zs) where
   route-same : (i : ℕ) → i < c → RouteSame ws zs i
-  route-same i l = record {
-    kind = f (seat i) (omega arith) (omega arith) (omega arith);
-    port = f (seat i + 1) (omega arith) (omega arith) (omega arith);
-    gateway = f (seat i + 2) (omega arith) (omega arith) (omega arith);
-    address = f (seat i + 3) (omega arith) (omega arith) (omega arith);
-    length = f (seat i + 3 + 1) (omega arith) (omega arith) (omega arith);
-    next = f (seat i + 5) (omega arith) (omega arith) (omega arith);
-  }
+  route-same i l = route-agree c ws zs i (λ x a b. f x (omega arith) (omega arith) (omega arith))
 
   inner-same : (j : ℕ) → j < c → InnerSame c ws zs j
-  inner-same j l = record {
-    mark = f (joint c j) (omega arith) (omega arith) (omega arith);
-    left = f (joint c j + 1) (omega arith) (omega arith) (omega arith);
-    right = f (joint c j + 2) (omega arith) (omega arith) (omega arith);
-  }
-
-  root-same : (link : ℕ) (t : Root ℕ Seat) → HoldsRoot c ws link t → HoldsRoot c zs link t
-  root-same link none h = h
-  root-same link (some t) h = holds-frame c ws zs link t (λ i k. route-same i (routes-in-pool c ws zs link t h i k)) (λ j k. inner-same j (inners-in-pool c ws zs link t h j k)) h
+  inner-same j l = inner-agree c ws zs j (λ x a b. f x (omega arith) (omega arith) (omega arith))
 
 pub encodes-trial : (ws zs : List ℕ) (s : State Hop) (t : Trial Hop) → Encodes ws s → length zs ≡ length ws → TableSame (s .capacity) ws zs → TrialThere (s .capacity) zs t
     → Encodes zs (withTrial s (s .routes) t)
@@ -60,7 +43,7 @@ encodes-trial ws zs s t e l f h = record {
   capacityThere = sym (f 0 (omega arith) (omega arith) (omega arith)) ∙ e .capacityThere;
   countThere = sym (f 1 (omega arith) (omega arith) (omega arith)) ∙ e .countThere;
   trialThere = h;
-  holds = subst (λ (n : ℕ). HoldsRoot (s .capacity) zs n (e .tree)) (f 2 (omega arith) (omega arith) (omega arith)) (root-same (s .capacity) ws zs f (word ws 2) (e .tree) (e .holds));
+  holds = subst (λ (n : ℕ). HoldsRoot (s .capacity) zs n (e .tree)) (f 2 (omega arith) (omega arith) (omega arith)) (root-frame (s .capacity) ws zs (route-same (s .capacity) ws zs f) (inner-same (s .capacity) ws zs f) (word ws 2) (e .tree) (e .holds));
   good = e .good;
   routesThere = e .routesThere;
   routePlacesUsed = λ i m u. e .routePlacesUsed i m (subst (λ (n : ℕ). 1 ≤ n) (sym (route-same (s .capacity) ws zs f i m .kind)) u);

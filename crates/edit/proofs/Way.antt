@@ -4,27 +4,15 @@ use mathlib.Core.Path.{_≡_, refl, sym, subst, _∙_}
 use mathlib.Core.List.{List, [], _∷_, _++_}
 use mathlib.Core.Logic.{_⊎_, inl, inr, ⊎-elim}
 use native.Mathlib.Omega.{arith}
-use Rattle.model.specs.Ipv4.{Hop}
 use Rattle.patricia.specs.Tree.{node}
 use Rattle.patricia.specs.Way.{Step, wentLeft, wentRight, plug}
 use Rattle.pool.specs.Layout.{word, joint, markAt, leftAt, rightAt}
 use Rattle.pool.specs.Link.{toInner}
-use Rattle.pool.specs.Holds.{Seat, Seated, bare, Holds, routePlaces, innerPlaces}
+use Rattle.pool.specs.Holds.{Seat, Seated, Holds, routePlaces, innerPlaces}
 use Rattle.pool.specs.Means.{Among}
 use Rattle.pool.proofs.Distinct.{Distinct}
 use Rattle.edit.specs.Cells.{cellOf}
 use Rattle.pool.proofs.Frame.{RouteSame, InnerSame, holds-frame, among-append, append-among}
-
--- the way without the routes' places
-abbrev pub bareWay : List (Step ℕ Seat) → List (Step ℕ Hop)
-bareWay [] = []
-bareWay (wentLeft j b r ∷ w) = wentLeft j b (bare r) ∷ bareWay w
-bareWay (wentRight j b l ∷ w) = wentRight j b (bare l) ∷ bareWay w
-
-pub bare-plug : (w : List (Step ℕ Seat)) (t : Seated) → bare (plug w t) ≡ plug (bareWay w) (bare t)
-bare-plug [] t = refl
-bare-plug (wentLeft j b r ∷ w) t = bare-plug w (node j b t r)
-bare-plug (wentRight j b l ∷ w) t = bare-plug w (node j b l t)
 
 -- the way stands in the words, all but the cell at its end
 abbrev pub HoldsWay : ℕ → List ℕ → List (Step ℕ Seat) → Type 0

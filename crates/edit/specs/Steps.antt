@@ -9,13 +9,13 @@ use Rattle.patricia.specs.Obeys.{LongestFirst}
 use Rattle.pool.specs.Layout.{seat, markAt}
 use Rattle.pool.specs.Link.{toRoute}
 use Rattle.pool.specs.Holds.{Seat, Chain}
-use Rattle.search.specs.Down.{Usable}
+use Rattle.search.specs.Down.{AllUsable}
 use Rattle.edit.specs.Cells.{cellAt, endCell, Longer}
 
 -- The first n places of the array can be used.
 pub record WayUsable (c : ℕ) (ws : List ℕ) (inner : List ℕ) (n : ℕ) : Type 0 where
   pub shallow : n ≤ 32
-  pub usable : (k : ℕ) → k < n → Usable c ws (getD inner k 0)
+  pub usable : AllUsable c ws inner n
 
 -- The cell below the first n places, in the pool.
 pub record CellRight (c : ℕ) (ws : List ℕ) (inner : List ℕ) (n a r : ℕ) : Type 0 where

@@ -1,10 +1,8 @@
-ghost use mathlib.Core.Path.{_≡_};
-ghost use mathlib.Core.List.{List};
 ghost use Rattle.model.specs.Routes.{insert, remove, replace};
 ghost use Rattle.model.specs.Ipv4.{Hop};
 ghost use Rattle.model.specs.State.{State};
 ghost use Rattle.model.specs.Call.{withTrial};
-ghost use Rattle.route.specs.Means.{prefixOf, hopOf, routeOf};
+ghost use Rattle.route.specs.Means.{prefixOf, routeOf};
 ghost use Rattle.search.specs.Fit.{Fit};
 ghost use Rattle.edit.specs.Encodes.{Encodes, ToPut, ToTake};
 use super::free::free_inner;

@@ -38,6 +38,12 @@ module _ {P : Type 0} where
       go none e = e
       go (some r) e = absurd (true≢false (sym (ap present e) ∙ t))
 
+  -- taking one change back keeps the order
+  pub undo-order : (c : Change P) (l : List (Route P)) → InOrder l → CanUndo c l → InOrder (undo c l)
+  undo-order (added r) l o u = remove-order (r .prefix) l o
+  undo-order (deleted r) l o u = insert-order r l o (absent (r .prefix) l u)
+  undo-order (changed p old new) l o u = let w = there p l u in replace-order (record { prefix = p; payload = old }) (w .0) l o (w .1)
+
 module _ {P : Type 0} (R : Rules P) where
   -- ---- every route obeys, said of each that is held
 
@@ -62,11 +68,6 @@ module _ {P : Type 0} (R : Rules P) where
       ⊎-elim (λ f. subst (λ (z : Route P). Obeys R (z .prefix) (z .payload)) (sym f) b) (λ w. obeys-held l a q (w .0)) (replace-held r old l o e q .0 h))
 
   -- ---- taking one change back
-
-  undo-order : (c : Change P) (l : List (Route P)) → InOrder l → CanUndo c l → InOrder (undo c l)
-  undo-order (added r) l o u = remove-order (r .prefix) l o
-  undo-order (deleted r) l o u = insert-order r l o (absent (r .prefix) l u)
-  undo-order (changed p old new) l o u = let w = there p l u in replace-order (record { prefix = p; payload = old }) (w .0) l o (w .1)
 
   undo-obeys : (c : Change P) (l : List (Route P)) → InOrder l → CanUndo c l → ChangeObeys R c → AllObey R l → AllObey R (undo c l)
   undo-obeys (added r) l o u b a = remove-obeys (r .prefix) l o a

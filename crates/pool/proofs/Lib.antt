@@ -3,3 +3,4 @@ pub mod Unique
 pub mod Frame
 pub mod Local
 pub mod Distinct
+pub mod Places

@@ -71,26 +71,38 @@ module _ (c : ℕ) (ws zs : List ℕ) where
   recorded-length zero (x ∷ xs) h = absurd h
   recorded-length (suc n) (x ∷ xs) h = ap suc (recorded-length n xs (h .1))
 
+  -- a place whose words agree
+  pub route-agree : (i : ℕ) → ((x : ℕ) → seat i ≤ x → x < seat i + 8 → word ws x ≡ word zs x) → RouteSame ws zs i
+  route-agree i f = record {
+    kind = f (seat i) (omega arith) (omega arith);
+    port = f (seat i + 1) (omega arith) (omega arith);
+    gateway = f (seat i + 2) (omega arith) (omega arith);
+    address = f (seat i + 3) (omega arith) (omega arith);
+    length = f (seat i + 3 + 1) (omega arith) (omega arith);
+    next = f (seat i + 5) (omega arith) (omega arith);
+  }
+
+  pub inner-agree : (j : ℕ) → ((x : ℕ) → joint c j ≤ x → x < joint c j + 4 → word ws x ≡ word zs x) → InnerSame c ws zs j
+  inner-agree j f = record {
+    mark = f (joint c j) (omega arith) (omega arith);
+    left = f (joint c j + 1) (omega arith) (omega arith);
+    right = f (joint c j + 2) (omega arith) (omega arith);
+  }
+
+  -- where all places agree, the tree stands on
+  pub root-frame : ((i : ℕ) → i < c → RouteSame ws zs i) → ((j : ℕ) → j < c → InnerSame c ws zs j) → (link : ℕ) (t : Root ℕ Seat) → HoldsRoot c ws link t → HoldsRoot c zs link t
+  root-frame f g link none h = h
+  root-frame f g link (some t) h = holds-frame c ws zs link t (λ i k. f i (routes-in-pool c ws zs link t h i k)) (λ j k. g j (inners-in-pool c ws zs link t h j k)) h
+
   module _ (f : SameTo (size c) ws zs) where
     pub route-same : (i : ℕ) → i < c → RouteSame ws zs i
-    route-same i h = record {
-      kind = f (seat i) (omega arith);
-      port = f (seat i + 1) (omega arith);
-      gateway = f (seat i + 2) (omega arith);
-      address = f (seat i + 3) (omega arith);
-      length = f (seat i + 3 + 1) (omega arith);
-      next = f (seat i + 5) (omega arith);
-    }
+    route-same i h = route-agree i (λ x a b. f x (omega arith))
 
     pub inner-same : (j : ℕ) → j < c → InnerSame c ws zs j
-    inner-same j h = record { mark = f (joint c j) (omega arith); left = f (joint c j + 1) (omega arith); right = f (joint c j + 2) (omega arith) }
+    inner-same j h = inner-agree j (λ x a b. f x (omega arith))
 
     pub slot-same : (k : ℕ) → k < 64 → SlotSame c ws zs k
     slot-same k h = slot-agree c ws zs k (λ x a b. f x (omega arith))
-
-    root-frame : (link : ℕ) (t : Root ℕ Seat) → HoldsRoot c ws link t → HoldsRoot c zs link t
-    root-frame link none h = h
-    root-frame link (some t) h = holds-frame c ws zs link t (λ i k. route-same i (routes-in-pool c ws zs link t h i k)) (λ j k. inner-same j (inners-in-pool c ws zs link t h j k)) h
 
     trial-frame : (t : Trial Hop) → length (changes t) ≤ 64 → TrialThere c ws t → TrialThere c zs t
     trial-frame closed l h = (sym (f 3 (omega arith)) ∙ h .0, sym (f 4 (omega arith)) ∙ h .1)
@@ -108,7 +120,7 @@ means-frame ws zs s m l f =
       capacityThere = sym (f 0 (omega arith)) ∙ m .capacityThere;
       countThere = sym (f 1 (omega arith)) ∙ m .countThere;
       trialThere = trial-frame c ws zs f (s .trial) (m .lawful .few) (m .trialThere);
-      holds = subst (λ (n : ℕ). HoldsRoot c zs n (m .tree)) (f 2 (omega arith)) (root-frame c ws zs f (word ws 2) (m .tree) (m .holds));
+      holds = subst (λ (n : ℕ). HoldsRoot c zs n (m .tree)) (f 2 (omega arith)) (root-frame c ws zs (route-same c ws zs f) (inner-same c ws zs f) (word ws 2) (m .tree) (m .holds));
       obeys = m .obeys;
       routesThere = m .routesThere;
       routePlacesUsed = λ i h u. m .routePlacesUsed i h (subst (λ (n : ℕ). 1 ≤ n) (sym (route-same c ws zs f i h .kind)) u);

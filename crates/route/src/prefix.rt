@@ -1,5 +1,4 @@
 ghost use mathlib.Core.Path.{_≡_};
-ghost use mathlib.Core.Bool.{true};
 ghost use Rattle.model.specs.Prefix.{wellFormed, matches, before, same};
 ghost use Rattle.model.specs.Ipv4.{mayHold};
 ghost use Rattle.route.specs.Means.{prefixOf};

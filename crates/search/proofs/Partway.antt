@@ -18,7 +18,7 @@ use Rattle.pool.specs.Link.{toRoute, toInner}
 use Rattle.pool.specs.Holds.{Seat, Seated, bare, Holds}
 use Rattle.pool.proofs.Unique.{not-nothing}
 use Rattle.search.specs.Seen.{Starts, SeenRight}
-use Rattle.search.specs.Climb.{AllUsable}
+use Rattle.search.specs.Down.{AllUsable}
 use Rattle.search.specs.Down.{Kept, Led, Usable, Ways}
 use Rattle.search.specs.declared.descent.Seen.the-variants.{Leaf, Inner, Damaged}
 use Rattle.search.specs.declared.descent.End as end

@@ -11,16 +11,11 @@ use Rattle.pool.specs.Layout.{rootIn, markAt}
 use Rattle.pool.specs.Link.{toRoute}
 use Rattle.pool.specs.Holds.{Seat, Seated, bare, bareRoot, Chain, Holds, HoldsRoot}
 use Rattle.route.specs.declared.answer.Found.{Found}
-use Rattle.search.specs.Down.{Usable}
 use Rattle.search.specs.Says.{Says, Loose}
 use Rattle.search.specs.declared.climb.Edge.{Edge}
 use Rattle.search.specs.declared.climb.Edge.the-variants.{Leaf, Damaged}
 use Rattle.search.specs.declared.climb.Rise.{Rise}
 use Rattle.search.specs.declared.climb.Rise.the-variants.{At, Top}
-
--- Every place remembered can be used.
-abbrev pub AllUsable : ℕ → List ℕ → List ℕ → ℕ → Type 0
-AllUsable c ws inner depth = (k : ℕ) → k < depth → Usable c ws (getD inner k 0)
 
 -- At inner place j the destination's bit takes side x.
 abbrev pub Takes : ℕ → List ℕ → ℕ → ℕ → ℕ → Type 0

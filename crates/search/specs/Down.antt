@@ -52,6 +52,10 @@ pub record Usable (c : ℕ) (ws : List ℕ) (j : ℕ) : Type 0 where
   pub marked : 1 ≤ markAt c ws j
   pub within : markAt c ws j ≤ 32
 
+-- Every place remembered can be used.
+abbrev pub AllUsable : ℕ → List ℕ → List ℕ → ℕ → Type 0
+AllUsable c ws inner depth = (k : ℕ) → k < depth → Usable c ws (getD inner k 0)
+
 -- The way ends at this place.
 abbrev pub EndsAt : Way → Place → Type 0
 EndsAt w p = w .end ≡ Leaf p
@@ -67,7 +71,7 @@ pub record Ways (c : ℕ) (ws : List ℕ) (d : ℕ) (r : Way) : Type 0 where
   -- at most a step for each bit
   pub shallow : r .depth ≤ 32
   -- each place remembered can be used
-  pub usable : (k : ℕ) → k < r .depth → Usable c ws (getD (r .inner) k 0)
+  pub usable : AllUsable c ws (r .inner) (r .depth)
   -- the place at the end is in the pool
   pub endInPool : EndInPool c (r .end)
   -- no root, no way

@@ -1,8 +1,7 @@
-ghost use mathlib.Core.Path.{_≡_};
-ghost use Prim.Native.Nat.{_≤_, _<_};
+ghost use Prim.Native.Nat.{_≤_};
 ghost use Rattle.search.specs.Fit.{Fit};
-ghost use Rattle.search.specs.Down.{Ways, EndsAt};
-ghost use Rattle.search.specs.Climb.{AllUsable, Rises, Leftmost, Climbs, Looks};
+ghost use Rattle.search.specs.Down.{AllUsable, Ways, EndsAt};
+ghost use Rattle.search.specs.Climb.{Rises, Leftmost, Climbs, Looks};
 use super::descent::End;
 use super::descent::Seen;
 use super::descent::Way;

@@ -1,5 +1,5 @@
 ghost use mathlib.Core.Path.{_≡_};
-ghost use Prim.Native.Nat.{_≤_, _<_};
+ghost use Prim.Native.Nat.{_<_};
 ghost use Rattle.bits.specs.Address.{bit};
 ghost use Rattle.patricia.specs.Way.{toward};
 ghost use Rattle.pool.specs.Layout.{leftAt, rightAt};

@@ -1,4 +1,3 @@
-ghost use mathlib.Core.Path.{_≡_};
 ghost use Prim.Native.Nat.{_<_};
 ghost use Rattle.model.specs.Prefix.{same};
 ghost use Rattle.route.specs.Means.{prefixOf};

@@ -1,11 +1,9 @@
-ghost use mathlib.Core.Path.{_≡_};
 ghost use Prim.Native.Nat.{_≤_, _<_};
 ghost use Rattle.model.specs.Prefix.{before};
 ghost use Rattle.route.specs.Means.{prefixOf};
 ghost use Rattle.search.specs.Fit.{Fit};
-ghost use Rattle.search.specs.Down.{Ways, EndsAt};
+ghost use Rattle.search.specs.Down.{AllUsable, Ways, EndsAt};
 ghost use Rattle.search.specs.Find.{SpotIn};
-ghost use Rattle.search.specs.Climb.{AllUsable};
 ghost use Rattle.search.specs.Walk.{Fronts, Firsts, RightSide, Rejoined, Goes, Nexts};
 use super::climb::Edge;
 use super::climb::Rise;

@@ -1,4 +1,3 @@
-ghost use mathlib.Core.Path.{_≡_};
 ghost use Rattle.model.specs.Call as call;
 ghost use Rattle.pool.specs.Layout.{size, capacityIn};
 ghost use Rattle.route.specs.Means.{prefixOf, routeOf};

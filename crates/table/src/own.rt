@@ -1,4 +1,3 @@
-ghost use mathlib.Core.Path.{_≡_};
 ghost use Rattle.table.specs.Own.{OwnRight, TestedRight};
 
 // The capacity that a pool says, where it is one that a table may have and the words are enough for it.

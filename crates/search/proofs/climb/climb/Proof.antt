@@ -10,7 +10,8 @@ use Rattle.route.specs.Means.{prefixOf}
 use Rattle.pool.specs.Layout.{seat, prefixAt, leftAt}
 use Rattle.search.specs.Chain.{HungRight}
 use Rattle.search.specs.Down.{EndInPool, Usable}
-use Rattle.search.specs.Climb.{AllUsable, Rises, Leftmost}
+use Rattle.search.specs.Climb.{Rises, Leftmost}
+use Rattle.search.specs.Down.{AllUsable}
 use Rattle.search.specs.declared.climb.Rise.the-variants.{At}
 use Rattle.search.proofs.Climbing.{Matching, Unmatched, match-start, match-next, match-end, AllClimbing, climb-start, climbs-hit, climbs-top, climb-on, climbs-broken, climbs-lost}
 use Rattle.search.proofs.climb.climb.Statement.{statement}

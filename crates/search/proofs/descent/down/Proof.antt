@@ -5,7 +5,7 @@ use borrow.Author.Needs.{needs}
 use lib.ListN.{length, length-set}
 use Rattle.pool.specs.Layout.{rootIn}
 use Rattle.search.specs.Seen.{SeenRight}
-use Rattle.search.specs.Climb.{AllUsable}
+use Rattle.search.specs.Down.{AllUsable}
 use Rattle.search.specs.declared.descent.Seen.the-variants.{Leaf, Inner}
 use Rattle.search.proofs.Partway.{usable-more, AllPartway, at-root, step-down, ways-leaf, ways-damaged, ways-empty}
 use Rattle.search.proofs.descent.down.Statement.{statement}
