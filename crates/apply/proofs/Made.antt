@@ -21,15 +21,16 @@ use Rattle.patricia.specs.Tree.{Root, rootRoutes}
 use Rattle.pool.specs.Layout.{rules, rootIn, trialIn, standingIn, hopAt, seat}
 use Rattle.pool.specs.Holds.{Seat, bareRoot, Holds, HoldsRoot, routePlaces}
 use Rattle.pool.specs.declared.link.Place.{Place}
-use Rattle.pool.specs.Means.{Means, TrialThere}
+use Rattle.pool.specs.Means.{Means, TrialThere, routesUsed}
 use Rattle.pool.proofs.Local.{recorded-length}
 use Rattle.search.specs.Find.{Finds, Spotted}
 use Rattle.search.specs.declared.exact.Spot.{Spot}
 use Rattle.search.specs.declared.exact.Spot.the-variants as spot
+use Rattle.search.proofs.Spots.{means-spotted}
 use Rattle.edit.specs.Encodes.{Encodes, ToPut, ToTake}
 use Rattle.edit.proofs.Encodes.{means-encodes, encodes-means}
 use Rattle.edit.proofs.Stands.{stands}
-use Rattle.edit.specs.Writes.{writes, recordWrites, headWrites}
+use Rattle.write.specs.Writes.{writes, recordWrites, headWrites}
 use Rattle.edit.proofs.Trials.{Says, says-added, says-deleted, says-changed, record-encodes, open-encodes, close-encodes}
 use Rattle.apply.specs.Does.{Accepts}
 use Rattle.apply.specs.Noted.{Noted}
@@ -166,25 +167,10 @@ module _ (c : ℕ) (r : Route Hop) (ws : List ℕ) (s : State Hop) (a : Accepts 
 
 -- ---- the hop that a prefix has
 
--- what the search found of a prefix, in the words of a state
-pub spotted : (c : ℕ) (ws : List ℕ) (p : Prefix) (x : Spot) → Finds c ws p x → (s : State Hop) → Means ws s → s .capacity ≡ c → (places : List ℕ) × Spotted ws places x (find p (s .routes))
-spotted c ws p x f s m ci = go (e .tree) refl
-  where
-    e : Encodes ws s
-    e = means-encodes ws s m
-
-    go : (t : Root ℕ Seat) → e .tree ≡ t → (places : List ℕ) × Spotted ws places x (find p (s .routes))
-    go none k =
-        let empty : [] ≡ s .routes = subst (λ (x : Root ℕ Seat). rootRoutes (bareRoot x) ≡ s .routes) k (e .routesThere) in
-        let zero : rootIn ws ≡ 0 = subst (λ (x : Root ℕ Seat). HoldsRoot (s .capacity) ws (rootIn ws) x) k (e .holds) in
-        ([], subst (λ (l : List (Route Hop)). Spotted ws [] x (find p l)) empty (subst (λ (y : Spot). Spotted ws [] y none) (sym (f .empty zero)) tt))
-    go (some t) k =
-        let st = stands ws s e t k in
-        (routePlaces t, subst (Spotted ws (routePlaces t) x) (ap (find p) (st .table)) (f .exact t (subst (λ (n : ℕ). Holds n ws (rootIn ws) t) ci (st .held)) (st .good)))
-
+-- what the search found of a prefix that is there
 pub found-there : (c : ℕ) (ws : List ℕ) (p : Prefix) (x : Spot) → Finds c ws p x → (s : State Hop) → Means ws s → s .capacity ≡ c → (r : Route Hop) → find p (s .routes) ≡ some r
     → (places : List ℕ) × Spotted ws places x (some r)
-found-there c ws p x f s m ci r is = let v = spotted c ws p x f s m ci in (v .0, subst (Spotted ws (v .0) x) is (v .1))
+found-there c ws p x f s m ci r is = (routesUsed (m .tree), subst (Spotted ws (routesUsed (m .tree)) x) is (means-spotted c ws p x f s m ci))
 
 pub hop-there : (c : ℕ) (ws : List ℕ) (p : Prefix) (i : Place) → Finds c ws p (spot.At i) → (s : State Hop) → Means ws s → s .capacity ≡ c → (r : Route Hop) → find p (s .routes) ≡ some r
     → hopAt ws (seat (i .0)) ≡ r .payload

@@ -1,9 +1,2 @@
-pub mod Links
-pub mod Hanging
-pub mod Grown
-pub mod Tally
 pub mod Places
-pub mod Recording
-pub mod Undoing
-pub mod Turning
 pub mod Sounding

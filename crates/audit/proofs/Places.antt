@@ -9,11 +9,11 @@ use Rattle.pool.specs.Layout.{kindAt, markAt}
 use Rattle.pool.specs.Holds.{Seat, bare}
 use Rattle.pool.specs.Means.{routesUsed, innersUsed}
 use Rattle.pool.proofs.Frame.{routes-in-pool, inners-in-pool}
-use Rattle.audit.specs.Tree.{RootFine}
-use Rattle.audit.specs.Marks.{routeUsed, innerUsed}
+use Rattle.shape.specs.Tree.{RootFine}
+use Rattle.shape.specs.Marks.{routeUsed, innerUsed}
 use Rattle.pool.proofs.Places.{route-used, inner-used}
 use Rattle.pool.proofs.Distinct.{routes-distinct, inners-distinct}
-use Rattle.audit.proofs.Tally.{Picked, passes}
+use Rattle.shape.proofs.Tally.{Picked, passes}
 
 module _ (c : ℕ) (ws : List ℕ) where
   pub routes-picked : (t : Root ℕ Seat) → RootFine c ws t → Picked (routeUsed ws) c (routesUsed t)

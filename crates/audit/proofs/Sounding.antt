@@ -19,14 +19,14 @@ use Rattle.pool.specs.Means.{Recorded, TrialThere, routesUsed, innersUsed, Mean
 use Rattle.pool.proofs.Unique.{root-unique}
 use Rattle.search.specs.Fit.{Fit}
 use Rattle.audit.specs.Head.{HeadFine}
-use Rattle.audit.specs.Tree.{RootFine}
-use Rattle.audit.specs.Marks.{tally, routeUsed, innerUsed}
-use Rattle.audit.specs.Changes.{decoded, ChangesFine, Tabled, BackSays}
-use Rattle.audit.proofs.Tally.{tally-le, passes, passed, has-all, all-there}
+use Rattle.shape.specs.Tree.{RootFine}
+use Rattle.shape.specs.Marks.{tally, routeUsed, innerUsed}
+use Rattle.standing.specs.Changes.{decoded, ChangesFine, Tabled, BackSays}
+use Rattle.shape.proofs.Tally.{tally-le, passes, passed, has-all, all-there}
 use Rattle.pool.proofs.Places.{route-count}
 use Rattle.audit.proofs.Places.{routes-picked, inners-picked}
-use Rattle.audit.proofs.Recording.{decoded-length, recorded-is, fine-recorded, recorded-fine}
-use Rattle.audit.proofs.Turning.{tabled-order}
+use Rattle.standing.proofs.Recording.{decoded-length, recorded-is, fine-recorded, recorded-fine}
+use Rattle.standing.proofs.Turning.{tabled-order}
 
 -- the words are a sound pool of this capacity
 abbrev pub SoundAt : ℕ → List ℕ → Type 0

@@ -1,5 +1,1 @@
-pub mod Chain
-pub mod Tree
-pub mod Marks
 pub mod Head
-pub mod Changes

@@ -6,11 +6,7 @@
 // its addresses can't have both a 0 and a 1 at the bit. So the tree takes at most 33 sides that are fine and one way down, fewer
 // than 7,000 steps from place to place. The marks take 2 * 96 steps and the changes 64. Taking the changes back takes at most 2,016
 // comparisons with a newer change and 64 searches of at most 65 steps.
-mod chain;
-mod changes;
 mod head;
-mod marks;
-mod tree;
 
 ghost use mathlib.Core.Path.{_≡_};
 ghost use mathlib.Core.Bool.{true};
@@ -19,7 +15,7 @@ ghost use Rattle.model.specs.Ipv4.{Hop};
 ghost use Rattle.model.specs.State.{State};
 ghost use Rattle.pool.specs.Means.{Means};
 ghost use Rattle.search.specs.Fit.{Fit};
-use tree::RootAudit;
+use shape::RootAudit;
 
 // Whether the words are a sound pool of this capacity.
 pub fn audit(pool: &[u32], capacity: usize) -> bool
@@ -29,21 +25,21 @@ pub fn audit(pool: &[u32], capacity: usize) -> bool
     if !head::head_is_good(pool, capacity) {
         return false;
     }
-    let RootAudit::Fine { routes, inners } = tree::audit_root(pool, capacity) else {
+    let RootAudit::Fine { routes, inners } = shape::audit_root(pool, capacity) else {
         return false;
     };
     if pool::wide(pool[1]) != routes {
         return false;
     }
-    if marks::used_routes(pool, capacity) != routes {
+    if shape::used_routes(pool, capacity) != routes {
         return false;
     }
-    if marks::used_inners(pool, capacity) != inners {
+    if shape::used_inners(pool, capacity) != inners {
         return false;
     }
     let standing = pool::wide(pool[4]);
-    if !changes::changes_are_good(pool, capacity, standing) {
+    if !standing::changes_are_good(pool, capacity, standing) {
         return false;
     }
-    changes::can_take_back(pool, capacity, standing, routes)
+    standing::can_take_back(pool, capacity, standing, routes)
 }

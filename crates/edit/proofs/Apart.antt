@@ -9,7 +9,7 @@ use Rattle.pool.specs.Holds.{Seat, Seated, routePlaces, innerPlaces}
 use Rattle.pool.specs.Means.{Among}
 use Rattle.pool.proofs.Distinct.{Distinct, distinct-append}
 use Rattle.pool.proofs.Frame.{among-append, append-among}
-use Rattle.edit.proofs.Way.{wayRoutes, wayInners}
+use Rattle.plan.proofs.Way.{wayRoutes, wayInners}
 
 -- two lists with nothing twice and nothing in both
 pub record Asunder (xs ys : List ℕ) : Type 0 where

@@ -17,18 +17,18 @@ use Rattle.patricia.proofs.Find.{reached}
 use Rattle.pool.specs.Layout.{rootIn, countIn}
 use Rattle.pool.specs.declared.link.Place.{Place}
 use Rattle.pool.specs.Holds.{Seat, Seated, bare, bareRoot, HoldsRoot}
-use Rattle.edit.specs.Writes.{writes, firstWrites, hangWrites, joinWrites, linkWrites, dropWrites, lastWrites, hopWrites}
-use Rattle.edit.specs.Plan.{PutRight, JoinsAt, HeldThere, TakenAt}
-use Rattle.edit.specs.Planned.{HeldRight, TakeRight}
-use Rattle.edit.specs.Free.{FreeRoute, FreeInner, RouteSpare, InnerSpare}
+use Rattle.write.specs.Writes.{writes, firstWrites, hangWrites, joinWrites, linkWrites, dropWrites, lastWrites, hopWrites}
+use Rattle.plan.specs.Plan.{PutRight, JoinsAt, HeldThere, TakenAt}
+use Rattle.plan.specs.Planned.{HeldRight, TakeRight}
+use Rattle.plan.specs.Free.{FreeRoute, FreeInner, RouteSpare, InnerSpare}
 use Rattle.search.specs.Fit.{Fit}
 use Rattle.edit.specs.Encodes.{Encodes, ToPut, ToTake}
-use Rattle.edit.specs.declared.plan.PutPlan.{PutPlan}
-use Rattle.edit.specs.declared.plan.PutPlan.the-variants as put
-use Rattle.edit.specs.declared.plan.TakePlan.{TakePlan}
-use Rattle.edit.specs.declared.plan.TakePlan.the-variants as taken
-use Rattle.edit.specs.declared.plan.HeldAt.{HeldAt}
-use Rattle.edit.specs.declared.plan.HeldAt.the-variants as at
+use Rattle.plan.specs.declared.plan.PutPlan.{PutPlan}
+use Rattle.plan.specs.declared.plan.PutPlan.the-variants as put
+use Rattle.plan.specs.declared.plan.TakePlan.{TakePlan}
+use Rattle.plan.specs.declared.plan.TakePlan.the-variants as taken
+use Rattle.plan.specs.declared.plan.HeldAt.{HeldAt}
+use Rattle.plan.specs.declared.plan.HeldAt.the-variants as at
 use Rattle.edit.proofs.Stands.{Stands, stands}
 use Rattle.edit.proofs.HangIn.{hang-encodes}
 use Rattle.edit.proofs.JoinIn.{join-encodes}

@@ -15,8 +15,8 @@ use Rattle.pool.specs.Holds.{Seat, Seated, InPlace, Chain, Holds, routePlaces, 
 use Rattle.pool.specs.Means.{Among}
 use Rattle.pool.proofs.Distinct.{Distinct}
 use Rattle.pool.proofs.Frame.{RouteSame, InnerSame, holds-frame, routes-in-pool, inners-in-pool}
-use Rattle.edit.specs.Cells.{cellOf}
-use Rattle.edit.proofs.Way.{HoldsWay, way-plug, plug-way, wayInners, plug-routes, plug-inners, InnerBut, inner-whole, way-frame}
+use Rattle.plan.specs.Cells.{cellOf}
+use Rattle.plan.proofs.Way.{HoldsWay, way-plug, plug-way, wayInners, plug-routes, plug-inners, InnerBut, inner-whole, way-frame}
 use Rattle.edit.proofs.Apart.{inners-apart}
 
 -- every place but these stays, but for the cell

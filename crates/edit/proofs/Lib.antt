@@ -1,9 +1,6 @@
-pub mod Way
 pub mod Apart
-pub mod Chains
 pub mod Join
 pub mod Rehang
-pub mod Writes
 pub mod Encodes
 pub mod Spared
 pub mod Touch
@@ -14,13 +11,5 @@ pub mod FirstIn
 pub mod TakeOut
 pub mod DropLeaf
 pub mod Trials
-pub mod Rows
 pub mod Spare
-pub mod CellAt
-pub mod ChainAt
-pub mod Lengths
-pub mod Leads
-pub mod PutPlanned
-pub mod HeldPlanned
-pub mod TakePlanned
 pub mod Changed

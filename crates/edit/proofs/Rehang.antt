@@ -11,10 +11,10 @@ use Rattle.pool.specs.Holds.{Seat, Chain, Holds, chainPlaces, routePlaces, inne
 use Rattle.pool.specs.Means.{Among}
 use Rattle.pool.proofs.Distinct.{Distinct}
 use Rattle.pool.proofs.Frame.{chain-frame, among-append, routes-in-pool, inners-in-pool}
-use Rattle.edit.specs.Cells.{cellOf, endCell}
-use Rattle.edit.proofs.Way.{HoldsWay, way-plug, plug-way, wayRoutes, plug-routes, plug-inners, InnerBut, way-frame}
+use Rattle.plan.specs.Cells.{cellOf, endCell}
+use Rattle.plan.proofs.Way.{HoldsWay, way-plug, plug-way, wayRoutes, plug-routes, plug-inners, InnerBut, way-frame}
 use Rattle.edit.proofs.Apart.{Asunder, asunder, routes-apart, inners-apart}
-use Rattle.edit.proofs.Chains.{ChainTo, chain-join, chain-split, places-append, end-owner, RouteBut, route-whole, chain-to-frame}
+use Rattle.plan.proofs.Chains.{ChainTo, chain-join, chain-split, places-append, end-owner, RouteBut, route-whole, chain-to-frame}
 
 -- a leaf's words hold it as a chain
 pub leaf-chain : (c : ℕ) (ws : List ℕ) (link a : ℕ) (es : List (Entry Seat)) → Holds c ws link (leaf a es) → Chain c ws a link es

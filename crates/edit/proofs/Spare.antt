@@ -14,7 +14,7 @@ use Rattle.pool.specs.Layout.{rootIn, leftAt, rightAt}
 use Rattle.pool.specs.Holds.{Seat, Seated, bare, bareRoot, innerPlaces, Holds, HoldsRoot}
 use Rattle.pool.specs.Means.{Among, routesUsed, innersUsed}
 use Rattle.pool.proofs.Places.{route-count}
-use Rattle.edit.specs.Free.{RouteSpare, InnerSpare}
+use Rattle.plan.specs.Free.{RouteSpare, InnerSpare}
 use Rattle.edit.specs.Encodes.{Encodes}
 
 -- ---- a list that has every place is long

@@ -1,7 +1,1 @@
-pub mod Cells
-pub mod Writes
-pub mod Plan
-pub mod Free
-pub mod Steps
-pub mod Planned
 pub mod Encodes

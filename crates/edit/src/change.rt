@@ -5,23 +5,23 @@ ghost use Rattle.model.specs.Call.{withTrial};
 ghost use Rattle.route.specs.Means.{prefixOf, routeOf};
 ghost use Rattle.search.specs.Fit.{Fit};
 ghost use Rattle.edit.specs.Encodes.{Encodes, ToPut, ToTake};
-use super::free::free_inner;
-use super::free::free_route;
-use super::plan::HeldAt;
-use super::plan::PutPlan;
-use super::plan::TakePlan;
-use super::plan::held_at;
-use super::plan::plan_put;
-use super::plan::plan_take;
-use super::put::put_first;
-use super::put::put_hung;
-use super::put::put_joined;
-use super::take::swap_hop;
-use super::take::take_last;
-use super::take::take_leaf;
-use super::take::take_link;
+use plan::HeldAt;
+use plan::PutPlan;
+use plan::TakePlan;
+use plan::free_inner;
+use plan::free_route;
+use plan::held_at;
+use plan::plan_put;
+use plan::plan_take;
 use route::Prefix;
 use route::Route;
+use write::put_first;
+use write::put_hung;
+use write::put_joined;
+use write::swap_hop;
+use write::take_last;
+use write::take_leaf;
+use write::take_link;
 
 // A route more, where its prefix is not there and there is room.
 pub fn put_in(pool: &mut [u32], capacity: usize, route: Route)

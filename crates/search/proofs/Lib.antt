@@ -4,10 +4,3 @@ pub mod Partway
 pub mod Led
 pub mod Chain
 pub mod Spots
-pub mod Left
-pub mod Rise
-pub mod Climbing
-pub mod Around
-pub mod Fronts
-pub mod Rejoin
-pub mod Onward

@@ -7,23 +7,24 @@ use mathlib.Core.Logic.{inl, inr}
 use mathlib.Core.Option.{Option, none, some}
 use native.Mathlib.Omega.{arith}
 use Rattle.model.specs.Prefix.{Prefix, same, before}
-use Rattle.model.specs.Routes.{Route, find, nextAfter}
+use Rattle.model.specs.Routes.{Route, find, present, nextAfter}
 use Rattle.model.specs.Ipv4.{Hop}
-use Rattle.patricia.specs.Tree.{Entry, Tree, leaf, node, hung, routes}
+use Rattle.model.specs.State.{State}
+use Rattle.patricia.specs.Tree.{Entry, Tree, leaf, node, Root, hung, routes, rootRoutes}
 use Rattle.patricia.specs.Obeys.{LongestFirst}
 use Rattle.patricia.specs.Way.{Step, wentLeft, wentRight, plug}
-use Rattle.patricia.proofs.Form.{Good}
+use Rattle.patricia.proofs.Form.{Good, RootGood, root-obeys-good}
 use Rattle.patricia.proofs.Zip.{find-plug}
 use Rattle.patricia.proofs.Find.{findIn, find-in}
 use Rattle.pool.specs.Layout.{seat, rootIn, nextAt, prefixAt}
 use Rattle.pool.specs.Link.{toRoute}
-use Rattle.pool.specs.Holds.{Seat, Seated, bare, bareEntries, chainPlaces, routePlaces, Chain}
-use Rattle.pool.specs.Means.{Among}
+use Rattle.pool.specs.Holds.{Seat, Seated, bare, bareRoot, bareEntries, chainPlaces, routePlaces, Chain, HoldsRoot}
+use Rattle.pool.specs.Means.{Among, routesUsed, Means}
 use Rattle.pool.specs.declared.link.Place.{Place}
 use Rattle.pool.proofs.Frame.{among-append}
 use Rattle.search.specs.Chain.{HungRight}
 use Rattle.search.specs.Down.{Led, Ways}
-use Rattle.search.specs.Find.{Spotted, seek, SpotIn, Finds}
+use Rattle.search.specs.Find.{isAt, Spotted, seek, SpotIn, Finds}
 use Rattle.search.specs.declared.exact.Spot.{Spot}
 use Rattle.search.specs.declared.exact.Spot.the-variants.{At, Absent, Damaged}
 use Rattle.search.specs.declared.exact.Hung as hungs
@@ -137,3 +138,23 @@ module _ (c : ℕ) (ws : List ℕ) (p : Prefix) (way : Way) (ways : Ways c ws (p
           subst (Spotted ws (routePlaces t) o) (sym (find-led t g l))
           (spotted-more ws (chainPlaces es) (routePlaces t) o (seek (same p) (hung (l .address) (bareEntries es)))
           (λ k u. subst (λ (x : Seated). Among k (routePlaces x)) (l .whole) (places-plug k (l .way) (leaf (l .address) es) u)) here)
+
+-- ---- what was found of a prefix, in the routes that the words mean
+
+pub root-spotted : (c : ℕ) (ws : List ℕ) (p : Prefix) (x : Spot) → Finds c ws p x → (t : Root ℕ Seat) → HoldsRoot c ws (rootIn ws) t → RootGood 32 (bareRoot t)
+    → Spotted ws (routesUsed t) x (find p (rootRoutes (bareRoot t)))
+root-spotted c ws p x f none h g = subst (λ (y : Spot). Spotted ws [] y none) (sym (f .empty h)) tt
+root-spotted c ws p x f (some t) h g = f .exact t h g
+
+pub means-spotted : (c : ℕ) (ws : List ℕ) (p : Prefix) (x : Spot) → Finds c ws p x → (s : State Hop) (m : Means ws s) → s .capacity ≡ c → Spotted ws (routesUsed (m .tree)) x (find p (s .routes))
+means-spotted c ws p x f s m e =
+    subst (λ (l : List (Route Hop)). Spotted ws (routesUsed (m .tree)) x (find p l)) (m .routesThere)
+    (root-spotted c ws p x f (m .tree) (subst (λ (n : ℕ). HoldsRoot n ws (rootIn ws) (m .tree)) e (m .holds)) (root-obeys-good 32 (bareRoot (m .tree)) (m .obeys)))
+
+-- a place was found just where the prefix is held
+pub spotted-present : (ws places : List ℕ) (x : Spot) (o : Option (Route Hop)) → Spotted ws places x o → isAt x ≡ present o
+spotted-present ws places (At p) none s = absurd s
+spotted-present ws places (At p) (some r) s = refl
+spotted-present ws places Absent none s = refl
+spotted-present ws places Absent (some r) s = absurd s
+spotted-present ws places Damaged o s = absurd s

@@ -1,7 +1,7 @@
 -- Demand of the exact search: the place of the route that has just this prefix.
 use Prim.Native.Nat.{ℕ, _<_}
 use mathlib.Core.Path.{_≡_}
-use mathlib.Core.Bool.{Bool, cond}
+use mathlib.Core.Bool.{Bool, true, false, cond}
 use mathlib.Core.List.{List, [], _∷_}
 use mathlib.Core.Option.{Option, none, some}
 use Rattle.model.specs.Prefix.{Prefix}
@@ -24,6 +24,12 @@ Spotted ws places (At p) (some r) = Among (p .0) places × (routeAt ws (p .0) �
 Spotted ws places Absent none = Unit {0}
 Spotted ws places Absent (some r) = ⊥
 Spotted ws places Damaged o = ⊥
+
+-- Whether a place was found.
+abbrev pub isAt : Spot → Bool
+isAt (At p) = true
+isAt Absent = false
+isAt Damaged = false
 
 -- The place that is found is in the pool.
 abbrev pub SpotInPool : ℕ → Spot → Type 0

@@ -1,9 +1,10 @@
 ghost use Prim.Native.Nat.{_<_};
+ghost use mathlib.Core.Path.{_≡_};
 ghost use Rattle.model.specs.Prefix.{same};
 ghost use Rattle.route.specs.Means.{prefixOf};
 ghost use Rattle.search.specs.Fit.{Fit};
 ghost use Rattle.search.specs.Chain.{HungRight};
-ghost use Rattle.search.specs.Find.{SpotIn, Finds};
+ghost use Rattle.search.specs.Find.{isAt, SpotIn, Finds};
 use super::descent::End;
 use super::descent::down;
 use pool::Link;
@@ -46,6 +47,19 @@ pub enum Spot {
     At(Place),
     Absent,
     Damaged,
+}
+
+impl Spot {
+    // Whether a place was found.
+    pub fn is_at(self) -> bool
+        ensures { λ r. ⌜ r ≡ isAt self ⌝ }
+    {
+        match self {
+            Spot::At(_) => true,
+            Spot::Absent => false,
+            Spot::Damaged => false,
+        }
+    }
 }
 
 // The place of a prefix among the routes of a leaf.

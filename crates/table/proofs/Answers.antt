@@ -12,8 +12,8 @@ use Rattle.pool.specs.Means.{Means}
 use Rattle.route.specs.Answers.{measuredNumber, measuredValue}
 use Rattle.route.specs.Masks.{measuredAs}
 use Rattle.route.specs.declared.answer.Measured.{Measured}
-use Rattle.table.specs.Promise.{Promise}
-use Rattle.table.proofs.Promises.{answers}
+use Rattle.promise.specs.Promise.{Promise}
+use Rattle.promise.proofs.Promises.{answers}
 
 -- "Room left is the capacity less the routes held."
 pub room-answer : (ws : List ℕ) (s : State Hop) → Means ws s → Promise (size (capacityIn ws)) room ws ws 0 (count (word ws 0 - word ws 1))

@@ -16,8 +16,8 @@ use Rattle.model.specs.Lawful.{Lawful}
 use Rattle.model.proofs.Lawful.{empty-lawful}
 use Rattle.pool.specs.Layout.{word, rules, size, seat, joint}
 use Rattle.pool.specs.Means.{Means}
-use Rattle.table.specs.Promise.{Meant, Promise}
-use Rattle.table.proofs.Promises.{refused-value, refused-next}
+use Rattle.promise.specs.Promise.{Meant, Promise}
+use Rattle.promise.proofs.Promises.{refused-value, refused-next}
 
 -- ---- the words after a fresh table is made: the own words cleared, the capacity in front
 

@@ -19,14 +19,14 @@ use Rattle.pool.specs.Holds.{Seat, bareRoot, HoldsRoot}
 use Rattle.pool.specs.Means.{Means}
 use Rattle.route.specs.Answers.{foundNumber, foundValue}
 use Rattle.route.specs.declared.answer.Found.{Found}
-use Rattle.search.specs.Says.{Says}
-use Rattle.search.specs.Climb.{Looks}
-use Rattle.search.specs.Walk.{Firsts, Nexts}
-use Rattle.table.specs.Own.{OwnRight}
-use Rattle.table.specs.Promise.{Meant, Promise, LookupPromise}
-use Rattle.table.specs.declared.own.Own.the-variants.{Capacity}
-use Rattle.table.proofs.Promises.{promise-of, meant-one, refuses-sound}
-use Rattle.table.proofs.Lent.{own-sound}
+use Rattle.climb.specs.Says.{Says}
+use Rattle.climb.specs.Climb.{Looks}
+use Rattle.walk.specs.Walk.{Firsts, Nexts}
+use Rattle.ruling.specs.Own.{OwnRight}
+use Rattle.promise.specs.Promise.{Meant, Promise, LookupPromise}
+use Rattle.ruling.specs.declared.own.Own.the-variants.{Capacity}
+use Rattle.promise.proofs.Promises.{promise-of, meant-one, refuses-sound}
+use Rattle.ruling.proofs.Lent.{own-sound}
 
 -- ---- an answer, and the route that it says
 

@@ -3,7 +3,7 @@ ghost use lib.ListN.{length, replicate};
 ghost use Rattle.model.specs.Call as call;
 ghost use Rattle.pool.specs.Layout.{size};
 ghost use Rattle.route.specs.Answers.{doneNumber};
-ghost use Rattle.table.specs.Promise.{Promise};
+ghost use Rattle.promise.specs.Promise.{Promise};
 use route::Done;
 use route::Refusal;
 

@@ -2,17 +2,17 @@ ghost use Rattle.model.specs.Call as call;
 ghost use Rattle.pool.specs.Layout.{size, capacityIn};
 ghost use Rattle.route.specs.Means.{prefixOf, routeOf};
 ghost use Rattle.route.specs.Answers.{doneNumber};
-ghost use Rattle.table.specs.Promise.{Promise};
-use super::may::May;
-use super::may::may_add;
-use super::may::may_change;
-use super::may::may_delete;
-use super::may::may_end;
-use super::may::may_open;
-use super::may::may_step_back;
+ghost use Rattle.promise.specs.Promise.{Promise};
 use route::Done;
 use route::Prefix;
 use route::Route;
+use ruling::May;
+use ruling::may_add;
+use ruling::may_change;
+use ruling::may_delete;
+use ruling::may_end;
+use ruling::may_open;
+use ruling::may_step_back;
 
 // One route more.
 pub fn add(pool: &mut [u32], route: Route) -> Done

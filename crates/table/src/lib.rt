@@ -1,8 +1,6 @@
 // The public calls: each tests, then reads or changes the pool. None asks anything of its caller.
 mod begin;
 mod change;
-mod may;
-mod own;
 mod read;
 
 pub use begin::fresh;

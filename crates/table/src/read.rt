@@ -8,16 +8,16 @@ ghost use Rattle.pool.specs.Layout.{size, capacityIn};
 ghost use Rattle.pool.specs.Means.{Sound};
 ghost use Rattle.route.specs.Means.{prefixOf};
 ghost use Rattle.route.specs.Answers.{foundNumber, foundValue, roomNumber, roomValue, measuredNumber, measuredValue};
-ghost use Rattle.table.specs.Promise.{Promise, LookupPromise};
-use super::own::Own;
-use super::own::Verdict;
-use super::own::own_words;
-use super::own::tested;
+ghost use Rattle.promise.specs.Promise.{Promise, LookupPromise};
 use route::Found;
 use route::Measured;
 use route::Prefix;
 use route::Refusal;
 use route::Room;
+use ruling::Own;
+use ruling::Verdict;
+use ruling::own_words;
+use ruling::tested;
 
 // Whether a pool is sound: yes exactly when it is.
 pub fn sound(pool: &[u32]) -> bool
@@ -36,7 +36,7 @@ pub fn lookup(pool: &[u32], destination: u32) -> Found
     match own_words(pool) {
         Own::Capacity(capacity) => {
             let own = pool::size_of(capacity);
-            search::lookup(&pool[..own], capacity, destination)
+            climb::lookup(&pool[..own], capacity, destination)
         }
         Own::Short => Found::Refused(Refusal::NotSound),
     }
@@ -50,7 +50,7 @@ pub fn first(pool: &[u32]) -> Found
         return Found::Refused(Refusal::NotSound);
     };
     let own = pool::size_of(capacity);
-    search::first(&pool[..own], capacity)
+    walk::first(&pool[..own], capacity)
 }
 
 // The next route after a prefix, held or not.
@@ -64,7 +64,7 @@ pub fn next(pool: &[u32], prefix: Prefix) -> Found
         return Found::Refused(Refusal::BadPrefix);
     }
     let own = pool::size_of(capacity);
-    search::next(&pool[..own], capacity, prefix)
+    walk::next(&pool[..own], capacity, prefix)
 }
 
 // How many routes the table still takes.

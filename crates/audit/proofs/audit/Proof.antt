@@ -5,12 +5,12 @@ use native.Mathlib.Omega.{arith}
 use borrow.Author.Tests.{not-true, not-false}
 use Rattle.model.proofs.Tests.{not-both}
 use Rattle.audit.specs.Head.{HeadFine}
-use Rattle.audit.specs.Tree.{RootSays}
-use Rattle.audit.specs.Marks.{routeUsed}
-use Rattle.audit.specs.Changes.{ChangesFine, BackSays}
-use Rattle.audit.specs.declared.tree.RootAudit.{RootAudit}
-use Rattle.audit.proofs.Hanging.{refused}
-use Rattle.audit.proofs.Tally.{tally-le}
+use Rattle.shape.specs.Tree.{RootSays}
+use Rattle.shape.specs.Marks.{routeUsed}
+use Rattle.standing.specs.Changes.{ChangesFine, BackSays}
+use Rattle.shape.specs.declared.tree.RootAudit.{RootAudit}
+use Rattle.shape.proofs.Hanging.{refused}
+use Rattle.shape.proofs.Tally.{tally-le}
 use Rattle.audit.proofs.Sounding.{SoundAt, sound-fine, counts, decides}
 use borrow.Author.Needs.{needs}
 use Rattle.audit.proofs.audit.Statement.{statement}

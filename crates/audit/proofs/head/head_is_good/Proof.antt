@@ -1,7 +1,7 @@
 use mathlib.Core.Path.{_∙_}
 use native.Mathlib.Omega.{arith}
 use borrow.Author.Tests.{eqb-true, eq-eqb}
-use Rattle.audit.proofs.Hanging.{refused}
+use Rattle.shape.proofs.Hanging.{refused}
 use borrow.Author.Needs.{needs}
 use Rattle.audit.proofs.head.head_is_good.Statement.{statement}
 use Rattle.audit.proofs.head.head_is_good.Tie as tie

@@ -1,8 +1,8 @@
 use mathlib.Core.Path.{subst}
 use native.Mathlib.Omega.{arith}
 use borrow.Author.Needs.{needs}
-use Rattle.edit.specs.Plan.{PutRight}
-use Rattle.edit.specs.Planned.{PutInPool}
+use Rattle.plan.specs.Plan.{PutRight}
+use Rattle.plan.specs.Planned.{PutInPool}
 use Rattle.edit.proofs.Changed.{put-route-spare, put-inner-spare, put-count, first-done, hung-done, joins-low, joined-done}
 use Rattle.edit.proofs.change.put_in.Statement.{statement}
 use Rattle.edit.proofs.change.put_in.Tie as tie

@@ -1,7 +1,7 @@
 use mathlib.Core.Path.{subst}
 use native.Mathlib.Omega.{arith}
 use borrow.Author.Needs.{needs}
-use Rattle.edit.specs.Planned.{HeldRight}
+use Rattle.plan.specs.Planned.{HeldRight}
 use Rattle.edit.proofs.Changed.{swap-done, held-not}
 use Rattle.edit.proofs.change.swap.Statement.{statement}
 use Rattle.edit.proofs.change.swap.Tie as tie

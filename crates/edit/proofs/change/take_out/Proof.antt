@@ -1,7 +1,7 @@
 use mathlib.Core.Path.{subst}
 use native.Mathlib.Omega.{arith}
 use borrow.Author.Needs.{needs}
-use Rattle.edit.specs.Planned.{TakeRight}
+use Rattle.plan.specs.Planned.{TakeRight}
 use Rattle.edit.proofs.Changed.{count-some, link-done, leaf-done, last-done, nowhere-not}
 use Rattle.edit.proofs.change.take_out.Statement.{statement}
 use Rattle.edit.proofs.change.take_out.Tie as tie

@@ -2,7 +2,7 @@ use mathlib.Core.Path.{refl, sym, subst, _∙_}
 use borrow.Author.Needs.{needs}
 use Rattle.model.specs.Call.{change}
 use Rattle.route.specs.Means.{routeOf}
-use Rattle.table.specs.May.{MayRight}
+use Rattle.ruling.specs.May.{MayRight}
 use Rattle.table.proofs.Changes.{goes-small, goes-fit, goes-in, goes-accepted, goes, refused-by}
 use Rattle.table.proofs.change.change_hop.Statement.{statement}
 use Rattle.table.proofs.change.change_hop.Tie as tie

@@ -1,7 +1,7 @@
 use mathlib.Core.Path.{refl, sym, subst, _∙_}
 use borrow.Author.Needs.{needs}
 use Rattle.model.specs.Call.{openTrial}
-use Rattle.table.specs.May.{MayRight}
+use Rattle.ruling.specs.May.{MayRight}
 use Rattle.table.proofs.Changes.{goes-small, goes-fit, goes-in, goes-accepted, goes, refused-by}
 use Rattle.table.proofs.change.open_trial.Statement.{statement}
 use Rattle.table.proofs.change.open_trial.Tie as tie

@@ -1,8 +1,8 @@
 use mathlib.Core.Path.{refl, sym, subst, _∙_}
 use mathlib.Core.Logic.{inl, inr}
 use native.Mathlib.Omega.{arith}
-use Rattle.table.specs.Own.{OwnRight}
-use Rattle.table.proofs.Lent.{own-fits}
+use Rattle.ruling.specs.Own.{OwnRight}
+use Rattle.ruling.proofs.Lent.{own-fits}
 use Rattle.table.proofs.Founds.{lookup-answer}
 use borrow.Author.Needs.{needs}
 use Rattle.table.proofs.read.lookup.Statement.{statement}

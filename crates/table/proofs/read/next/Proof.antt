@@ -3,9 +3,9 @@ use native.Mathlib.Omega.{arith}
 use borrow.Author.Tests.{not-true, not-false}
 use Rattle.model.specs.Call.{after}
 use Rattle.route.specs.Means.{prefixOf}
-use Rattle.table.specs.Own.{TestedRight}
-use Rattle.table.proofs.Promises.{refuses-unsound}
-use Rattle.table.proofs.Lent.{own-fits, sound-own}
+use Rattle.ruling.specs.Own.{TestedRight}
+use Rattle.promise.proofs.Promises.{refuses-unsound}
+use Rattle.ruling.proofs.Lent.{own-fits, sound-own}
 use Rattle.table.proofs.Founds.{bad-prefix, next-answer}
 use borrow.Author.Needs.{needs}
 use Rattle.table.proofs.read.next.Statement.{statement}

@@ -1,8 +1,8 @@
 use mathlib.Core.Path.{refl, subst}
 use native.Mathlib.Omega.{arith}
 use Rattle.model.specs.Call.{room}
-use Rattle.table.specs.Own.{TestedRight}
-use Rattle.table.proofs.Promises.{refuses-unsound}
+use Rattle.ruling.specs.Own.{TestedRight}
+use Rattle.promise.proofs.Promises.{refuses-unsound}
 use Rattle.table.proofs.Answers.{room-answer}
 use borrow.Author.Needs.{needs}
 use Rattle.table.proofs.read.room_left.Statement.{statement}

@@ -1,0 +1,9 @@
+pub mod Way
+pub mod Chains
+pub mod CellAt
+pub mod ChainAt
+pub mod Lengths
+pub mod Leads
+pub mod PutPlanned
+pub mod HeldPlanned
+pub mod TakePlanned

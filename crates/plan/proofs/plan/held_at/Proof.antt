@@ -1,0 +1,47 @@
+use mathlib.Core.Path.{subst}
+use borrow.Author.Needs.{needs}
+use Rattle.search.specs.Down.{EndInPool}
+use Rattle.plan.proofs.HeldPlanned.{held-empty, held-damaged, held-leaf}
+use Rattle.plan.proofs.plan.held_at.Statement.{statement}
+use Rattle.plan.proofs.plan.held_at.Tie as tie
+
+down-requires : tie.Need-down-requires
+down-requires c κs = search needs
+
+enum-known-end : tie.Need-enum-known-end
+enum-known-end c = search needs
+
+cell-of-requires : tie.Need-cell-of-requires
+cell-of-requires c κs = search needs
+
+hung-at-requires : tie.Need-hung-at-requires
+hung-at-requires c κs = (c .before .before .before .before .before .before .before .pre, (subst (EndInPool _) (c .before .before .end .given .1) (c .before .before .before .before .before .down .ensures .endInPool), c .cell-of .ensures .inPool))
+
+enum-told : tie.Need-enum-told
+enum-told c = search needs
+
+enum-told-2 : tie.Need-enum-told-2
+enum-told-2 c = search needs
+
+returns : tie.Need-returns
+returns c = held-leaf _ _ _ _ (c .before .before .before .before .before .before .down .ensures) _ (c .before .before .before .end .given .1) _ (c .before .cell-of .ensures) _ (c .hung-at .ensures)
+
+returns-2 : tie.Need-returns-2
+returns-2 c = held-empty _ _ _ _ (c .before .before .before .down .ensures) (c .enum-told .given .1)
+
+returns-3 : tie.Need-returns-3
+returns-3 c = held-damaged _ _ _ _ (c .before .before .before .down .ensures) (c .enum-told2 .given .1)
+
+pub held-at-spec : {M : Type 1} → statement M
+held-at-spec =
+    tie.close
+    (tie.spec
+    down-requires
+    enum-known-end
+    cell-of-requires
+    hung-at-requires
+    enum-told
+    enum-told-2
+    returns
+    returns-2
+    returns-3)

@@ -1,0 +1,106 @@
+-- What the plans promise of any words, and of words that hold a tree.
+use Prim.Native.Nat.{ℕ, _≤_, _<_}
+use mathlib.Core.Path.{_≡_}
+use mathlib.Core.List.{List, [], _∷_, _++_}
+use mathlib.Core.Logic.{_⊎_}
+use mathlib.Core.Option.{some}
+use lib.ListN.{length}
+use Rattle.model.specs.Prefix.{Prefix}
+use Rattle.model.specs.Routes.{Route, find}
+use Rattle.model.specs.Ipv4.{Hop}
+use Rattle.patricia.specs.Tree.{Entry, routes}
+use Rattle.patricia.specs.Obeys.{LongestFirst}
+use Rattle.patricia.specs.Way.{Step, plug}
+use Rattle.patricia.proofs.Form.{Good}
+use Rattle.patricia.proofs.Zip.{Follows}
+use Rattle.pool.specs.Layout.{word, rootIn}
+use Rattle.pool.specs.Link.{toRoute}
+use Rattle.pool.specs.Holds.{Seat, Seated, bare, Chain, Holds}
+use Rattle.search.specs.Down.{Kept}
+use Rattle.plan.specs.Cells.{cellOf, endCell, Longer, placeOf, siblingLink}
+use Rattle.plan.specs.Plan.{HeldThere, TakenAt}
+use Rattle.plan.specs.declared.plan.PutPlan.{PutPlan}
+use Rattle.plan.specs.declared.plan.PutPlan.the-variants as put
+use Rattle.plan.specs.declared.plan.TakePlan.{TakePlan}
+use Rattle.plan.specs.declared.plan.TakePlan.the-variants as taken
+use Rattle.plan.specs.declared.plan.HeldAt.{HeldAt}
+use Rattle.plan.specs.declared.plan.HeldAt.the-variants as at
+
+-- ---- the cells and places of a plan are in the pool
+
+-- Of a plan to put in.
+abbrev pub PutInPool : List ℕ → PutPlan → Type 0
+PutInPool ws put.First = Unit {0}
+PutInPool ws (put.Hang cell) = cell < length ws
+PutInPool ws (put.Join cell k) = (cell < length ws) × (k ≤ 32)
+
+-- Of a route that is held.
+abbrev pub HeldInPool : ℕ → List ℕ → HeldAt → Type 0
+HeldInPool c ws (at.At cell i) = (cell < length ws) × (i .0 < c)
+HeldInPool c ws at.Nowhere = Unit {0}
+
+-- Of a plan to take out.
+abbrev pub TakeInPool : ℕ → List ℕ → TakePlan → Type 0
+TakeInPool c ws (taken.Link cell i) = (cell < length ws) × (i .0 < c)
+TakeInPool c ws (taken.Leaf up j link i) = (up < length ws) × (j .0 < c) × (i .0 < c)
+TakeInPool c ws (taken.Last i) = i .0 < c
+TakeInPool c ws taken.Nowhere = Unit {0}
+
+-- ---- among the routes of one address
+
+-- One of these routes has length n.
+abbrev pub Has : ℕ → List (Entry Seat) → Type 0
+Has n [] = ⊥
+Has n (e ∷ es) = (e .length ≡ n) ⊎ Has n es
+
+-- The route of length n hangs at this cell, in this place.
+pub record HungIn (from n : ℕ) (es : List (Entry Seat)) (cell i : ℕ) : Type 0 where
+  pub longer : List (Entry Seat)
+  pub entry : Entry Seat
+  pub shorter : List (Entry Seat)
+  pub whole : longer ++ (entry ∷ shorter) ≡ es
+  pub cellIs : endCell from longer ≡ cell
+  pub longerAre : Longer n longer
+  pub lengthIs : entry .length ≡ n
+  pub placeIs : entry .payload .place ≡ i
+
+-- Where the route of length n is found; it is one of these routes.
+abbrev pub HungThere : ℕ → ℕ → List (Entry Seat) → HeldAt → Type 0
+HungThere from n es (at.At cell i) = HungIn from n es cell (i .0)
+HungThere from n es at.Nowhere = ⊥
+
+-- What a look along the routes of an address finds.
+pub record HungFrom (c : ℕ) (ws : List ℕ) (from i n : ℕ) (r : HeldAt) : Type 0 where
+  -- of any words
+  pub inPool : HeldInPool c ws r
+  -- of routes that hang from place i, longest first, one of which has length n
+  pub exact : (a : ℕ) (es : List (Entry Seat)) → Chain c ws a (toRoute i) es → LongestFirst es → word ws from ≡ toRoute i → Has n es → HungThere from n es r
+
+-- ---- at the end of a way
+
+-- The leaf at the end of the way has one route, in place i: it is the last of the table, or its sibling takes the place of the step above it.
+abbrev pub LoneAt : ℕ → List ℕ → ℕ → List (Step ℕ Seat) → TakePlan → Type 0
+LoneAt c ws i w (taken.Link cell k) = ⊥
+LoneAt c ws i w (taken.Leaf up j link k) =
+    (d : Step ℕ Seat) × (v : List (Step ℕ Seat)) × (w ≡ d ∷ v) × (placeOf d ≡ j .0) × (cellOf c v ≡ up) × (siblingLink c ws d ≡ link) × (k .0 ≡ i)
+LoneAt c ws i w (taken.Last k) = (w ≡ []) × (k .0 ≡ i)
+LoneAt c ws i w taken.Nowhere = ⊥
+
+-- What the way above a lone route says of taking it out.
+pub record LoneRight (c : ℕ) (ws : List ℕ) (inner : List ℕ) (n a i : ℕ) (r : TakePlan) : Type 0 where
+  -- of any words
+  pub inPool : TakeInPool c ws r
+  -- of a way of n steps in a tree, whose places are in the array
+  pub exact : (w : List (Step ℕ Seat)) (t : Seated) → Holds c ws (rootIn ws) (plug w t) → n ≡ length w → Kept inner w → Follows 32 a w → LoneAt c ws i w r
+
+-- ---- in the whole pool
+
+-- Where a prefix that is there hangs.
+pub record HeldRight (c : ℕ) (ws : List ℕ) (p : Prefix) (r : HeldAt) : Type 0 where
+  pub inPool : HeldInPool c ws r
+  pub exact : (t : Seated) (q : Route Hop) → Holds c ws (rootIn ws) t → Good 32 (bare t) → find p (routes (bare t)) ≡ some q → HeldThere c p t r
+
+-- Where a prefix that is there is taken out.
+pub record TakeRight (c : ℕ) (ws : List ℕ) (p : Prefix) (r : TakePlan) : Type 0 where
+  pub inPool : TakeInPool c ws r
+  pub exact : (t : Seated) (q : Route Hop) → Holds c ws (rootIn ws) t → Good 32 (bare t) → find p (routes (bare t)) ≡ some q → TakenAt c ws p t r

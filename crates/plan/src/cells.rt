@@ -1,0 +1,78 @@
+ghost use Prim.Native.Nat.{_<_};
+ghost use Rattle.search.specs.Fit.{Fit};
+ghost use Rattle.plan.specs.Steps.{WayUsable, CellRight, LevelRight, ChainCell};
+use pool::Place;
+use route::Length;
+use search::Hung;
+
+// A place does not say which side the way took, so the address's bit says it again.
+pub fn cell_of(
+    pool: &[u32],
+    capacity: usize,
+    inner: [usize; 32],
+    depth: usize,
+    address: u32,
+) -> usize
+    requires { ⌜ Fit capacity (now pool) ⌝ }
+    requires { ⌜ WayUsable capacity (now pool) inner depth ⌝ }
+    ensures { λ r. ⌜ CellRight capacity (now (pool .entry)) inner depth address r ⌝ }
+{
+    if depth == 0 {
+        return 2;
+    }
+    let place = Place(inner[depth - 1]);
+    let mark = pool::mark_at(pool, capacity, place);
+    let side = bits::bit_of(address, mark - 1);
+    pool::joint(capacity, place) + 1 + pool::wide(side)
+}
+
+// The bits grow down the way, so the first place that tests a later bit ends the count.
+pub fn level_of(
+    pool: &[u32],
+    capacity: usize,
+    inner: [usize; 32],
+    depth: usize,
+    index: u32,
+) -> usize
+    requires { ⌜ Fit capacity (now pool) ⌝ }
+    requires { ⌜ WayUsable capacity (now pool) inner depth ⌝ }
+    ensures { λ r. ⌜ LevelRight capacity (now (pool .entry)) inner depth index r ⌝ }
+{
+    let mut level: usize = 0;
+    while level < depth {
+        let mark = pool::mark_at(pool, capacity, Place(inner[level]));
+        if index < mark - 1 {
+            return level;
+        }
+        level += 1;
+    }
+    level
+}
+
+// The routes of an address hang longest first, so the cell is before the first that is not longer.
+pub fn chain_cell(pool: &[u32], capacity: usize, from: usize, first: Place, length: Length) -> usize
+    requires { ⌜ Fit capacity (now pool) ⌝ }
+    requires { ⌜ first .0 < capacity ⌝ }
+    ensures { λ r. ⌜ ChainCell capacity (now (pool .entry)) from (first .0) (length .0) r ⌝ }
+{
+    let mut cell = from;
+    let mut place = first;
+    loop {
+        let held = pool::prefix_at(pool, pool::seat(place) + 3);
+        if held.length.0 <= length.0 {
+            return cell;
+        }
+        cell = pool::seat(place) + 5;
+        match search::follow(pool, capacity, place, held.length) {
+            Hung::Route(next) => {
+                place = next;
+            }
+            Hung::End => {
+                return cell;
+            }
+            Hung::Damaged => {
+                return cell;
+            }
+        }
+    }
+}

@@ -1,0 +1,72 @@
+-- How a promise is kept: from the one state that the words mean, or from that they mean none.
+use Prim.Native.Nat.{ℕ, _≤_}
+use mathlib.Core.Path.{_≡_, refl, sym, ap, subst, _∙_}
+use mathlib.Core.Bool.{true, false}
+use mathlib.Core.List.{List}
+use mathlib.Core.Option.{none, some}
+use native.Mathlib.Omega.{arith}
+use borrow.Author.Tests.{ne-eqb}
+use lib.ListN.{length}
+use Rattle.model.specs.Ipv4.{Hop}
+use Rattle.model.specs.State.{State, Meaning}
+use Rattle.model.specs.Call.{Call, Value, nothing, number, accepted, value, next}
+use Rattle.model.proofs.Numbers.{asks, unsound-gives-9}
+use Rattle.pool.specs.Layout.{word, rules}
+use Rattle.pool.specs.Means.{Means, Sound}
+use Rattle.pool.proofs.Unique.{means-unique}
+use Rattle.promise.specs.Promise.{Meant, Promise}
+
+-- ---- what words mean, they mean alone
+
+pub meant-one : (ws : List ℕ) (s : State Hop) → Means ws s → (m : Meaning Hop) → Meant ws m → m ≡ some s
+meant-one ws s h none k = absurd (k (s, h))
+meant-one ws s h (some t) k = ap some (means-unique ws t s k h)
+
+pub meant-none : (ws : List ℕ) → (Sound ws → ⊥) → (m : Meaning Hop) → Meant ws m → m ≡ none
+meant-none ws h none k = refl
+meant-none ws h (some t) k = absurd (h (t, k))
+
+-- ---- a refusal has no value and leaves the meaning
+
+refused : (c : Call Hop) (m : Meaning Hop) (n : ℕ) → number rules c m ≡ n → (n ≡ 0 → ⊥) → accepted rules c m ≡ false
+refused c m n e z = ne-eqb (number rules c m) 0 (λ f. z (sym e ∙ f))
+
+pub refused-value : (c : Call Hop) (m : Meaning Hop) (n : ℕ) → number rules c m ≡ n → (n ≡ 0 → ⊥) → value rules c m ≡ nothing
+refused-value c m n e z = rw (refused c m n e z)
+
+pub refused-next : (c : Call Hop) (m : Meaning Hop) (n : ℕ) → number rules c m ≡ n → (n ≡ 0 → ⊥) → next rules c m ≡ m
+refused-next c m n e z = rw (refused c m n e z)
+
+-- ---- promises
+
+-- from the one meaning that the words have
+pub promise-of : (own : ℕ) (c : Call Hop) (ws zs : List ℕ) (n : ℕ) (v : Value Hop) (m : Meaning Hop) → ((x : Meaning Hop) → Meant ws x → x ≡ m) → n ≡ number rules c m → v ≡ value rules c m
+    → Meant zs (next rules c m) → ((n ≡ 0 → ⊥) → zs ≡ ws) → length zs ≡ length ws → ((i : ℕ) → own ≤ i → word zs i ≡ word ws i) → Promise own c ws zs n v
+promise-of own c ws zs n v m one a b d e f g = record {
+  numberIs = λ x h. a ∙ ap (number rules c) (sym (one x h));
+  valueIs = λ x h. b ∙ ap (value rules c) (sym (one x h));
+  meaningIs = λ x h. subst (λ (y : Meaning Hop). Meant zs (next rules c y)) (sym (one x h)) d;
+  refusalKeeps = e;
+  long = f;
+  pastKeeps = g;
+}
+
+-- a refusal, whatever the reason
+pub refuses : (own : ℕ) (c : Call Hop) (ws : List ℕ) (n : ℕ) (m : Meaning Hop) → Meant ws m → ((x : Meaning Hop) → Meant ws x → x ≡ m) → number rules c m ≡ n → (n ≡ 0 → ⊥) → Promise own c ws ws n nothing
+refuses own c ws n m h one e z =
+    promise-of own c ws ws n nothing m one (sym e) (sym (refused-value c m n e z)) (subst (Meant ws) (sym (refused-next c m n e z)) h) (λ k. refl) refl (λ i k. refl)
+
+-- 9, of a pool that is not sound
+pub refuses-unsound : (own : ℕ) (c : Call Hop) (ws : List ℕ) → asks rules c ≡ true → (Sound ws → ⊥) → Promise own c ws ws 9 nothing
+refuses-unsound own c ws a h = refuses own c ws 9 none h (meant-none ws h) (unsound-gives-9 rules c a) (λ z. nine z)
+  where
+    nine : _≡_ {A = ℕ} 9 0 → ⊥
+    nine z = omega arith
+
+-- another number, of a sound pool
+pub refuses-sound : (own : ℕ) (c : Call Hop) (ws : List ℕ) (n : ℕ) (s : State Hop) → Means ws s → number rules c (some s) ≡ n → (n ≡ 0 → ⊥) → Promise own c ws ws n nothing
+refuses-sound own c ws n s h e z = refuses own c ws n (some s) h (meant-one ws s h) e z
+
+-- an answer of a sound pool that stays as it is
+pub answers : (own : ℕ) (c : Call Hop) (ws : List ℕ) (v : Value Hop) (s : State Hop) → Means ws s → number rules c (some s) ≡ 0 → value rules c (some s) ≡ v → next rules c (some s) ≡ some s → Promise own c ws ws 0 v
+answers own c ws v s h e f g = promise-of own c ws ws 0 v (some s) (meant-one ws s h) (sym e) (sym f) (subst (Meant ws) (sym g) h) (λ k. refl) refl (λ i k. refl)

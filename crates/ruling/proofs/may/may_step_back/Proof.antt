@@ -1,0 +1,58 @@
+use mathlib.Core.Path.{refl, subst}
+use native.Mathlib.Omega.{arith}
+use borrow.Author.Tests.{not-true, not-false}
+use borrow.Author.Needs.{needs}
+use Rattle.model.specs.Call.{stepBack}
+use Rattle.ruling.specs.Own.{TestedRight}
+use Rattle.ruling.specs.May.{Tells}
+use Rattle.ruling.proofs.Lent.{sound-own}
+use Rattle.ruling.proofs.Mays.{no-unsound, step-goes, step-no-1, step-no-2}
+use Rattle.ruling.proofs.may.may_step_back.Statement.{statement}
+use Rattle.ruling.proofs.may.may_step_back.Tie as tie
+
+tested-requires : tie.Need-tested-requires
+tested-requires c κs = search needs
+
+enum-known-capacity : tie.Need-enum-known-capacity
+enum-known-capacity c = search needs
+
+enum-told : tie.Need-enum-told
+enum-told c = search needs
+
+returns : tie.Need-returns
+returns c = no-unsound (stepBack) _ refl (subst (TestedRight (c .before .before .before .before .args .pool .now)) (c .enum-told .given .1) (c .before .before .tested .ensures))
+
+trial-open-requires : tie.Need-trial-open-requires
+trial-open-requires c κs = let v = subst (TestedRight (c .before .before .before .before .before .args .pool .now)) (c .before .capacity .given .1) (c .before .before .before .tested .ensures) in omega (arith, sound-own (c .before .before .before .before .before .args .pool .now) _ v .3)
+
+returns-2 : tie.Need-returns-2
+returns-2 c =
+    let v = subst (TestedRight (c .before .before .before .before .before .before .before .args .pool .now)) (c .before .before .before .capacity .given .1) (c .before .before .before .before .before .tested .ensures) in
+    step-no-1 _ (v .0) (v .1) (subst (Tells _ _) (not-true _ (c .if1 .taken)) (c .before .trial-open .ensures))
+
+none-stands-requires : tie.Need-none-stands-requires
+none-stands-requires c κs = let v = subst (TestedRight (c .before .before .before .before .before .before .before .args .pool .now)) (c .before .before .before .capacity .given .1) (c .before .before .before .before .before .tested .ensures) in omega (arith, sound-own (c .before .before .before .before .before .before .before .args .pool .now) _ v .3)
+
+returns-3 : tie.Need-returns-3
+returns-3 c =
+    let v = subst (TestedRight (c .before .before .before .before .before .before .before .before .before .args .pool .now)) (c .before .before .before .before .before .capacity .given .1) (c .before .before .before .before .before .before .before .tested .ensures) in
+    step-no-2 _ (v .0) (v .1) (subst (Tells _ _) (not-false _ (c .before .before .if1 .left)) (c .before .before .before .trial-open .ensures)) (subst (Tells _ _) (c .if2 .taken) (c .before .none-stands .ensures))
+
+returns-4 : tie.Need-returns-4
+returns-4 c =
+    let v = subst (TestedRight (c .before .before .before .before .before .before .before .before .before .args .pool .now)) (c .before .before .before .before .before .capacity .given .1) (c .before .before .before .before .before .before .before .tested .ensures) in
+    step-goes _ (v .0) (v .1) _ (v .2) (subst (Tells _ _) (not-false _ (c .before .before .if1 .left)) (c .before .before .before .trial-open .ensures)) (subst (Tells _ _) (c .if2 .left) (c .before .none-stands .ensures))
+
+pub may-step-back-spec : {M : Type 1} → statement M
+may-step-back-spec =
+    tie.close
+    (tie.spec
+    tested-requires
+    enum-known-capacity
+    enum-told
+    returns
+    trial-open-requires
+    returns-2
+    none-stands-requires
+    returns-3
+    returns-4)

@@ -1,0 +1,13 @@
+use Rattle.ruling.proofs.Mays.{tells-standing}
+use borrow.Author.Needs.{needs}
+use Rattle.ruling.proofs.may.none_stands.Statement.{statement}
+use Rattle.ruling.proofs.may.none_stands.Tie as tie
+
+shared-slice-read-result : tie.Need-shared-slice-read-result
+shared-slice-read-result c = search needs
+
+returns : tie.Need-returns
+returns c = tells-standing _ 0
+
+pub none-stands-spec : {M : Type 1} → statement M
+none-stands-spec = tie.close (tie.spec shared-slice-read-result returns)

@@ -1,0 +1,16 @@
+use Rattle.ruling.proofs.Mays.{tells-full}
+use borrow.Author.Needs.{needs}
+use Rattle.ruling.proofs.may.table_full.Statement.{statement}
+use Rattle.ruling.proofs.may.table_full.Tie as tie
+
+shared-slice-read-result : tie.Need-shared-slice-read-result
+shared-slice-read-result c = search needs
+
+shared-slice-read-result-2 : tie.Need-shared-slice-read-result-2
+shared-slice-read-result-2 c = search needs
+
+returns : tie.Need-returns
+returns c = tells-full _
+
+pub table-full-spec : {M : Type 1} → statement M
+table-full-spec = tie.close (tie.spec shared-slice-read-result shared-slice-read-result-2 returns)

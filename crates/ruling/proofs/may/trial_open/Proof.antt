@@ -1,0 +1,13 @@
+use Rattle.ruling.proofs.Mays.{tells-open}
+use borrow.Author.Needs.{needs}
+use Rattle.ruling.proofs.may.trial_open.Statement.{statement}
+use Rattle.ruling.proofs.may.trial_open.Tie as tie
+
+shared-slice-read-result : tie.Need-shared-slice-read-result
+shared-slice-read-result c = search needs
+
+returns : tie.Need-returns
+returns c = tells-open _
+
+pub trial-open-spec : {M : Type 1} → statement M
+trial-open-spec = tie.close (tie.spec shared-slice-read-result returns)

@@ -1,0 +1,4 @@
+pub mod Links
+pub mod Hanging
+pub mod Grown
+pub mod Tally

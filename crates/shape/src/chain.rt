@@ -1,0 +1,101 @@
+ghost use mathlib.Core.Path.{_≡_};
+ghost use mathlib.Core.Bool.{true};
+ghost use mathlib.Core.Logic.{_↔_};
+ghost use Rattle.search.specs.Fit.{Fit};
+ghost use Rattle.shape.specs.Chain.{RouteFine, HungSays, ChainSays};
+use pool::Link;
+use pool::Place;
+
+// One route of a chain: bad, or good, with the link to the next and its length, below which the next must stay.
+pub enum Hung {
+    Bad,
+    Next { link: u32, bound: u32 },
+}
+
+// The routes of one address.
+pub enum ChainAudit {
+    Bad,
+    Fine { address: u32, routes: usize },
+}
+
+// Whether a place holds a route that the table may hold.
+fn route_is_good(pool: &[u32], capacity: usize, place: Place) -> bool
+    requires { ⌜ Fit capacity (now pool) ⌝ }
+    ensures { λ r. ⌜ (r ≡ true) ↔ RouteFine capacity (now (pool .entry)) (place .0) ⌝ }
+{
+    let i = place.0;
+    if capacity <= i {
+        return false;
+    }
+    let kind = pool::kind_at(pool, place);
+    if kind == 0 {
+        return false;
+    }
+    if 3 < kind {
+        return false;
+    }
+    let route = pool::route_at(pool, place);
+    let prefix = route.prefix;
+    let hop = route.hop;
+    if !prefix.well_formed() {
+        return false;
+    }
+    if !prefix.may_be_held() {
+        return false;
+    }
+    hop.is_good()
+}
+
+// Whether a link leads to a good route of this address that is shorter than the bound.
+fn step(pool: &[u32], capacity: usize, link: u32, address: u32, bound: u32) -> Hung
+    requires { ⌜ Fit capacity (now pool) ⌝ }
+    ensures { λ r. ⌜ HungSays capacity (now (pool .entry)) link address bound r ⌝ }
+{
+    let Link::Route(place) = pool::link_from(link) else {
+        return Hung::Bad;
+    };
+    if !route_is_good(pool, capacity, place) {
+        return Hung::Bad;
+    }
+    let route = pool::route_at(pool, place);
+    let prefix = route.prefix;
+    if prefix.address != address {
+        return Hung::Bad;
+    }
+    let length = prefix.length.0;
+    if bound <= length {
+        return Hung::Bad;
+    }
+    Hung::Next {
+        link: pool::next_at(pool, place),
+        bound: length,
+    }
+}
+
+// The routes that hang from a place on: one address, each good, longest first. Lengths fall, so there are 33 at most.
+pub fn audit_chain(pool: &[u32], capacity: usize, place: Place) -> ChainAudit
+    requires { ⌜ Fit capacity (now pool) ⌝ }
+    ensures { λ r. ⌜ ChainSays capacity (now (pool .entry)) (place .0) r ⌝ }
+{
+    let first = place.0;
+    if capacity <= first {
+        return ChainAudit::Bad;
+    }
+    let address = pool::route_at(pool, place).prefix.address;
+    let mut link = pool::route_link(place);
+    let mut bound: u32 = 33;
+    let mut routes: usize = 0;
+    while link != 0 {
+        let Hung::Next {
+            link: next,
+            bound: shorter,
+        } = step(pool, capacity, link, address, bound)
+        else {
+            return ChainAudit::Bad;
+        };
+        link = next;
+        bound = shorter;
+        routes += 1;
+    }
+    ChainAudit::Fine { address, routes }
+}

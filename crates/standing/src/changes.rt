@@ -1,0 +1,144 @@
+ghost use mathlib.Core.Path.{_≡_};
+ghost use mathlib.Core.Bool.{true};
+ghost use mathlib.Core.Logic.{_↔_};
+ghost use Prim.Native.Nat.{_+_, _≤_, _<_};
+ghost use lib.ListN.{length};
+ghost use Rattle.search.specs.Fit.{Fit};
+ghost use Rattle.standing.specs.Changes.{HopFine, ChangeFine, ChangesFine, ThereSays, TakenSays, BackSays};
+
+// A change taken back: not possible, or so many routes are left.
+pub enum Taken {
+    Bad,
+    Held(usize),
+}
+
+// Whether three words are a hop that the table may hold.
+fn hop_is_good(pool: &[u32], at: usize) -> bool
+    requires { ⌜ at + 2 < length (now pool) ⌝ }
+    ensures { λ r. ⌜ (r ≡ true) ↔ HopFine (now (pool .entry)) at ⌝ }
+{
+    let kind = pool[at];
+    if kind == 0 {
+        return false;
+    }
+    if 3 < kind {
+        return false;
+    }
+    pool::hop_at(pool, at).is_good()
+}
+
+// Whether a slot records a change whose prefix and hops the table may hold. A hop that its action does not use is not looked at.
+fn change_is_good(pool: &[u32], capacity: usize, change: usize) -> bool
+    requires { ⌜ Fit capacity (now pool) ⌝ }
+    requires { ⌜ change < 64 ⌝ }
+    ensures { λ r. ⌜ (r ≡ true) ↔ ChangeFine capacity (now (pool .entry)) change ⌝ }
+{
+    let at = pool::slot(capacity, change);
+    let action = pool[at];
+    let prefix = pool::prefix_at(pool, at + 1);
+    if !prefix.well_formed() {
+        return false;
+    }
+    if !prefix.may_be_held() {
+        return false;
+    }
+    if action == 1 {
+        return hop_is_good(pool, at + 6);
+    }
+    if action == 2 {
+        return hop_is_good(pool, at + 3);
+    }
+    if action != 3 {
+        return false;
+    }
+    if !hop_is_good(pool, at + 3) {
+        return false;
+    }
+    hop_is_good(pool, at + 6)
+}
+
+// Whether all standing changes are good.
+pub fn changes_are_good(pool: &[u32], capacity: usize, standing: usize) -> bool
+    requires { ⌜ Fit capacity (now pool) ⌝ }
+    requires { ⌜ standing ≤ 64 ⌝ }
+    ensures { λ r. ⌜ (r ≡ true) ↔ ChangesFine capacity (now (pool .entry)) standing ⌝ }
+{
+    let mut k: usize = 0;
+    while k < standing {
+        if !change_is_good(pool, capacity, k) {
+            return false;
+        }
+        k += 1;
+    }
+    true
+}
+
+// Whether the prefix of a change is there when all newer changes are taken back: the nearest newer change of the same prefix
+// says so, or else the table.
+fn is_there(pool: &[u32], capacity: usize, standing: usize, change: usize) -> bool
+    requires { ⌜ Fit capacity (now pool) ⌝ }
+    requires { ⌜ (standing ≤ 64) × (change < standing) ⌝ }
+    ensures { λ r. ⌜ ThereSays capacity (now (pool .entry)) standing change r ⌝ }
+{
+    let prefix = pool::prefix_at(pool, pool::slot(capacity, change) + 1);
+    let mut newer = change + 1;
+    while newer < standing {
+        let at = pool::slot(capacity, newer);
+        let other = pool::prefix_at(pool, at + 1);
+        if prefix.is(other) {
+            return pool[at] != 1;
+        }
+        newer += 1;
+    }
+    search::find(pool, capacity, prefix).is_at()
+}
+
+// One change taken back: an add or a hop change needs its prefix there, a delete needs it absent and room for one more.
+fn take_back(pool: &[u32], capacity: usize, standing: usize, change: usize, held: usize) -> Taken
+    requires { ⌜ Fit capacity (now pool) ⌝ }
+    requires { ⌜ (standing ≤ 64) × (change < standing) ⌝ }
+    requires { ⌜ held ≤ capacity ⌝ }
+    ensures { λ r. ⌜ TakenSays capacity (now (pool .entry)) standing change held r ⌝ }
+{
+    let at = pool::slot(capacity, change);
+    let action = pool[at];
+    let there = is_there(pool, capacity, standing, change);
+    if action == 2 {
+        if there {
+            return Taken::Bad;
+        }
+        if capacity <= held {
+            return Taken::Bad;
+        }
+        return Taken::Held(held + 1);
+    }
+    if !there {
+        return Taken::Bad;
+    }
+    if action != 1 {
+        return Taken::Held(held);
+    }
+    if held == 0 {
+        return Taken::Bad;
+    }
+    Taken::Held(held - 1)
+}
+
+// Whether all standing changes could be taken back one by one, newest first.
+pub fn can_take_back(pool: &[u32], capacity: usize, standing: usize, routes: usize) -> bool
+    requires { ⌜ Fit capacity (now pool) ⌝ }
+    requires { ⌜ (standing ≤ 64) × (routes ≤ capacity) ⌝ }
+    ensures { λ r. ⌜ BackSays capacity (now (pool .entry)) standing routes r ⌝ }
+{
+    let mut held = routes;
+    let mut left = standing;
+    while 0 < left {
+        let change = left - 1;
+        let Taken::Held(now_held) = take_back(pool, capacity, standing, change, held) else {
+            return false;
+        };
+        held = now_held;
+        left = change;
+    }
+    true
+}

@@ -1,0 +1,4 @@
+pub mod Around
+pub mod Fronts
+pub mod Rejoin
+pub mod Onward

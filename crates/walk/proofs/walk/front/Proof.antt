@@ -1,0 +1,30 @@
+use mathlib.Core.Path.{subst}
+use native.Mathlib.Omega.{arith}
+use Rattle.climb.specs.Climb.{Leftmost}
+use Rattle.walk.proofs.Fronts.{fronts-leaf, fronts-damaged}
+use borrow.Author.Needs.{needs}
+use Rattle.walk.proofs.walk.front.Statement.{statement}
+use Rattle.walk.proofs.walk.front.Tie as tie
+
+leftmost-requires : tie.Need-leftmost-requires
+leftmost-requires c κs = search needs
+
+enum-known-place : tie.Need-enum-known-place
+enum-known-place c = search needs
+
+route-at-requires : tie.Need-route-at-requires
+route-at-requires c κs = let e = subst (Leftmost _ _ _) (c .before .place .given .1) (c .before .before .before .leftmost .ensures) in let i = e .inPool in omega (arith, i, c .before .before .before .before .before .pre)
+
+enum-told : tie.Need-enum-told
+enum-told c = search needs
+
+returns : tie.Need-returns
+returns c = fronts-leaf _ _ _ _ _ (subst (Leftmost _ _ _) (c .before .before .place .given .1) (c .before .before .before .before .leftmost .ensures)) (c .route-at .ensures)
+
+returns-2 : tie.Need-returns-2
+returns-2 c = fronts-damaged _ _ _ (subst (Leftmost _ _ _) (c .enum-told .given .1) (c .before .before .leftmost .ensures))
+
+pub front-spec : {M : Type 1} → statement M
+front-spec =
+    tie.close
+    (tie.spec leftmost-requires enum-known-place route-at-requires enum-told returns returns-2)

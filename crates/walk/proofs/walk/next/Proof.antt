@@ -1,0 +1,81 @@
+use Prim.Native.Nat.{ℕ, _+_, _<_}
+use mathlib.Core.Path.{ap, subst, _∙_}
+use native.Mathlib.Omega.{arith}
+use Rattle.bits.specs.Address.{Part}
+use Rattle.model.specs.Prefix.{Prefix}
+use Rattle.pool.specs.Layout.{seat, prefixAt}
+use Rattle.search.specs.Down.{EndInPool}
+use Rattle.walk.proofs.Onward.{nexts-leaf, nexts-empty, nexts-damaged}
+use borrow.Author.Needs.{needs}
+use Rattle.walk.proofs.walk.next.Statement.{statement}
+use Rattle.walk.proofs.walk.next.Tie as tie
+
+inside : (c : tie.After-end) → c .end .given .0 .0 .0 < c .before .before .before .before .args .capacity
+inside c = subst (EndInPool _) (c .end .given .1) (c .before .before .down .ensures .endInPool)
+
+-- the bit at which the prefix's address parts from the one that was read
+parts : (c : tie.After-parting) → Part 32 (c .before .before .before .before .before .before .before .before .args .prefix .address) (prefixAt (c .before .before .before .before .before .before .before .before .args .pool .now) (seat (c .before .before .before .before .end .given .0 .0 .0) + 3) .address) (c .parting .result)
+parts c =
+    let read = ap (λ (p : Prefix). p .address) (c .before .prefix-at .ensures) ∙ ap (λ (n : ℕ). prefixAt (c .before .before .before .before .before .before .before .before .args .pool .now) (n + 3) .address) (c .before .before .seat .ensures) in
+    subst (λ (x : ℕ). Part 32 (c .before .before .before .before .before .before .before .before .args .prefix .address) x (c .parting .result)) read (c .parting .ensures)
+
+down-requires : tie.Need-down-requires
+down-requires c κs = search needs
+
+enum-known-end : tie.Need-enum-known-end
+enum-known-end c = search needs
+
+seat-requires : tie.Need-seat-requires
+seat-requires c κs = omega (arith, inside (c .before), c .before .before .before .before .before .pre)
+
+add-prefix-at : tie.Need-add-prefix-at
+add-prefix-at c = search needs
+
+prefix-at-requires : tie.Need-prefix-at-requires
+prefix-at-requires c κs = omega (arith, inside (c .before .before), c .before .before .before .before .before .before .pre, c .seat .ensures)
+
+parting-requires : tie.Need-parting-requires
+parting-requires c κs = search needs
+
+within-requires : tie.Need-within-requires
+within-requires c κs = (c .before .before .before .before .before .before .before .before .before .pre, (c .before .before .before .before .before .before .before .down .ensures, c .before .before .before .before .before .end .given .1))
+
+aside-requires : tie.Need-aside-requires
+aside-requires c κs = let p = c .before .parting .ensures .within in let n = c .if1 .left in (c .before .before .before .before .before .before .before .before .before .pre, (c .before .before .before .before .before .before .before .down .ensures, c .before .before .before .before .before .end .given .1, omega arith))
+
+enum-told : tie.Need-enum-told
+enum-told c = search needs
+
+enum-told-2 : tie.Need-enum-told-2
+enum-told-2 c = search needs
+
+returns : tie.Need-returns
+returns c = nexts-leaf _ _ _ _ (c .before .before .before .before .before .before .before .before .down .ensures) _ _ _ (c .before .before .before .before .before .before .end .given .1) (subst (Part _ _ _) (c .before .if1 .taken) (parts (c .before .before))) (c .within .ensures)
+
+returns-2 : tie.Need-returns-2
+returns-2 c = nexts-leaf _ _ _ _ (c .before .before .before .before .before .before .before .before .down .ensures) _ _ _ (c .before .before .before .before .before .before .end .given .1) (parts (c .before .before)) (c .aside .ensures)
+
+returns-3 : tie.Need-returns-3
+returns-3 c = nexts-empty _ _ _ _ (c .before .before .down .ensures) (c .enum-told .given .1)
+
+returns-4 : tie.Need-returns-4
+returns-4 c = nexts-damaged _ _ _ _ (c .before .before .down .ensures) (c .enum-told2 .given .1)
+
+pub next-spec : {M : Type 1} → statement M
+next-spec =
+    tie.close
+    (tie.spec
+    down-requires
+    enum-known-end
+    seat-requires
+    add-prefix-at
+    prefix-at-requires
+    parting-requires
+    within-requires
+    aside-requires
+    enum-told
+    enum-told-2
+    returns
+    returns-2
+    returns-3
+    returns-4)

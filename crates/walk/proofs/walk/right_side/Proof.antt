@@ -1,0 +1,62 @@
+use Prim.Native.Nat.{ℕ}
+use mathlib.Core.Path.{refl, subst}
+use mathlib.Core.Logic.{inl, inr}
+use native.Mathlib.Omega.{arith}
+use lib.ListN.{getD}
+use Rattle.search.specs.Down.{Usable}
+use Rattle.climb.specs.Climb.{Rises}
+use Rattle.walk.specs.Walk.{Fronts}
+use Rattle.climb.specs.declared.climb.Rise.the-variants.{At}
+use borrow.Author.Needs.{needs}
+use Rattle.walk.proofs.walk.right_side.Statement.{statement}
+use Rattle.walk.proofs.walk.right_side.Tie as tie
+
+-- the level, and its place
+rose : (c : tie.After-at) → Rises (c .before .before .before .before .args .capacity) (c .before .before .before .before .args .pool .now) (c .before .before .before .before .args .destination) 0 (c .before .before .before .before .args .inner .now) (c .before .before .before .before .args .level) (At (c .at .given .0 .0))
+rose c = subst (Rises _ _ _ _ _ _) (c .at .given .1) (c .before .before .ascend .ensures)
+
+usable : (c : tie.After-at) → Usable (c .before .before .before .before .args .capacity) (c .before .before .before .before .args .pool .now) (getD (c .before .before .before .before .args .inner .now) (c .at .given .0 .0) 0)
+usable c = c .before .before .before .before .pre .1 .1 (c .at .given .0 .0) (rose c .0)
+
+ascend-requires : tie.Need-ascend-requires
+ascend-requires c κs = search needs
+
+enum-known-at : tie.Need-enum-known-at
+enum-known-at c = search needs
+
+enum-told : tie.Need-enum-told
+enum-told c = search needs
+
+returns : tie.Need-returns
+returns c = inr (subst (Rises _ _ _ _ _ _) (c .enum-told .given .1) (c .before .before .ascend .ensures), refl)
+
+mul-place : tie.Need-mul-place
+mul-place c = omega (arith, rose (c .before) .0, c .before .before .before .before .before .pre .1 .0)
+
+element-copy-out-place : tie.Need-element-copy-out-place
+element-copy-out-place c = omega (arith, rose (c .before) .0, c .before .before .before .before .before .pre .1 .0)
+
+right-at-requires : tie.Need-right-at-requires
+right-at-requires c κs = omega (arith, usable (c .before .before) .inPool, c .before .before .before .before .before .before .pre .0)
+
+front-requires : tie.Need-front-requires
+front-requires c κs = search needs
+
+returns-2 : tie.Need-returns-2
+returns-2 c =
+    let a = c .before .before .before .before .before .before .before .before .args in
+    inl (c .before .before .before .before .at .given .0 .0, rose (c .before .before .before .before), subst (λ (n : ℕ). Fronts (a .capacity) (a .pool .now) n (c .front .result)) (c .before .right-at .ensures) (c .front .ensures))
+
+pub right-side-spec : {M : Type 1} → statement M
+right-side-spec =
+    tie.close
+    (tie.spec
+    ascend-requires
+    enum-known-at
+    enum-told
+    returns
+    mul-place
+    element-copy-out-place
+    right-at-requires
+    front-requires
+    returns-2)

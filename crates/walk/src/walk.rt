@@ -1,0 +1,161 @@
+ghost use Prim.Native.Nat.{_≤_, _<_};
+ghost use Rattle.model.specs.Prefix.{before};
+ghost use Rattle.route.specs.Means.{prefixOf};
+ghost use Rattle.search.specs.Fit.{Fit};
+ghost use Rattle.search.specs.Down.{AllUsable, Ways, EndsAt};
+ghost use Rattle.search.specs.Find.{SpotIn};
+ghost use Rattle.walk.specs.Walk.{Fronts, Firsts, RightSide, Rejoined, Goes, Nexts};
+use climb::Edge;
+use climb::Rise;
+use climb::ascend;
+use climb::leftmost;
+use pool::Place;
+use route::Found;
+use route::Prefix;
+use route::Refusal;
+use search::End;
+use search::Hung;
+use search::Spot;
+use search::Way;
+use search::down;
+use search::follow;
+
+// The first route of what stands at a link.
+fn front(pool: &[u32], capacity: usize, link: u32) -> Found
+    requires { ⌜ Fit capacity (now pool) ⌝ }
+    ensures { λ r. ⌜ Fronts capacity (now (pool .entry)) link r ⌝ }
+{
+    match leftmost(pool, capacity, link) {
+        Edge::Leaf(place) => Found::Route(pool::route_at(pool, place)),
+        Edge::Damaged => Found::Refused(Refusal::NotSound),
+    }
+}
+
+// The first route.
+pub fn first(pool: &[u32], capacity: usize) -> Found
+    requires { ⌜ Fit capacity (now pool) ⌝ }
+    ensures { λ r. ⌜ Firsts capacity (now (pool .entry)) r ⌝ }
+{
+    let link = pool[2];
+    if link == 0 {
+        return Found::Refused(Refusal::NoFurther);
+    }
+    front(pool, capacity, link)
+}
+
+// The first route to the right of the way, from a level of it up.
+fn right_side(
+    pool: &[u32],
+    capacity: usize,
+    inner: &[usize; 32],
+    level: usize,
+    destination: u32,
+) -> Found
+    requires { ⌜ Fit capacity (now pool) ⌝ }
+    requires { ⌜ (level ≤ 32) × AllUsable capacity (now pool) (now inner) level ⌝ }
+    ensures { λ r. ⌜ RightSide capacity (now (pool .entry)) destination (now (inner .entry)) level r ⌝ }
+{
+    let Rise::At(at) = ascend(pool, capacity, inner, level, destination, 0) else {
+        return Found::Refused(Refusal::NoFurther);
+    };
+    let place = inner[at];
+    front(pool, capacity, pool::right_at(pool, capacity, Place(place)))
+}
+
+// The spot of the first route of a leaf that comes after a prefix.
+fn beyond(pool: &[u32], capacity: usize, first: Place, prefix: Prefix) -> Spot
+    requires { ⌜ Fit capacity (now pool) ⌝ }
+    requires { ⌜ first .0 < capacity ⌝ }
+    ensures { λ r. ⌜ SpotIn capacity (now (pool .entry)) (first .0) (before (prefixOf prefix)) r ⌝ }
+{
+    let mut place = first;
+    loop {
+        let held = pool::prefix_at(pool, pool::seat(place) + 3);
+        if prefix.comes_before(held) {
+            return Spot::At(place);
+        }
+        match follow(pool, capacity, place, held.length) {
+            Hung::Route(next) => {
+                place = next;
+            }
+            Hung::End => {
+                return Spot::Absent;
+            }
+            Hung::Damaged => {
+                return Spot::Damaged;
+            }
+        }
+    }
+}
+
+// From the deepest of the levels up: how many are left of those that test a bit before the one at which two addresses part.
+fn rejoin(pool: &[u32], capacity: usize, inner: &[usize; 32], depth: usize, parted: u32) -> usize
+    requires { ⌜ Fit capacity (now pool) ⌝ }
+    requires { ⌜ (depth ≤ 32) × AllUsable capacity (now pool) (now inner) depth ⌝ }
+    ensures { λ r. ⌜ Rejoined capacity (now (pool .entry)) parted (now (inner .entry)) depth r ⌝ }
+{
+    let mut level = depth;
+    while 0 < level {
+        let place = inner[level - 1];
+        if pool::mark_at(pool, capacity, Place(place)) <= parted {
+            return level;
+        }
+        level -= 1;
+    }
+    level
+}
+
+// After a prefix whose address has a leaf: along the leaf's routes, or to the right of the way.
+fn within(pool: &[u32], capacity: usize, way: Way, leaf: Place, prefix: Prefix) -> Found
+    requires { ⌜ Fit capacity (now pool) ⌝ }
+    requires { ⌜ Ways capacity (now pool) (prefix .address) way × EndsAt way leaf ⌝ }
+    ensures { λ r. ⌜ Goes capacity (now (pool .entry)) (prefixOf prefix) (leaf .0) 32 r ⌝ }
+{
+    let inner = way.inner;
+    match beyond(pool, capacity, leaf, prefix) {
+        Spot::At(place) => Found::Route(pool::route_at(pool, place)),
+        Spot::Absent => right_side(pool, capacity, &inner, way.depth, prefix.address),
+        Spot::Damaged => Found::Refused(Refusal::NotSound),
+    }
+}
+
+// After a prefix whose address parts from the leaf's: what stands below the parting comes after it whole, or before it whole.
+fn aside(pool: &[u32], capacity: usize, way: Way, leaf: Place, prefix: Prefix, parted: u32) -> Found
+    requires { ⌜ Fit capacity (now pool) ⌝ }
+    requires { ⌜ Ways capacity (now pool) (prefix .address) way × EndsAt way leaf × (parted < 32) ⌝ }
+    ensures { λ r. ⌜ Goes capacity (now (pool .entry)) (prefixOf prefix) (leaf .0) parted r ⌝ }
+{
+    let inner = way.inner;
+    let depth = way.depth;
+    let level = rejoin(pool, capacity, &inner, depth, parted);
+    if bits::bit_of(prefix.address, parted) == 1 {
+        return right_side(pool, capacity, &inner, level, prefix.address);
+    }
+    if level == depth {
+        return front(pool, capacity, pool::route_link(leaf));
+    }
+    let place = inner[level];
+    front(pool, capacity, pool::inner_link(Place(place)))
+}
+
+// The next route after a prefix, held or not.
+pub fn next(pool: &[u32], capacity: usize, prefix: Prefix) -> Found
+    requires { ⌜ Fit capacity (now pool) ⌝ }
+    ensures { λ r. ⌜ Nexts capacity (now (pool .entry)) (prefixOf prefix) r ⌝ }
+{
+    let way = down(pool, capacity, prefix.address);
+    let end = way.end;
+    match end {
+        End::Leaf(leaf) => {
+            let held = pool::prefix_at(pool, pool::seat(leaf) + 3);
+            let parted = bits::parting(prefix.address, held.address);
+            if parted == 32 {
+                within(pool, capacity, way, leaf, prefix)
+            } else {
+                aside(pool, capacity, way, leaf, prefix, parted)
+            }
+        }
+        End::Empty => Found::Refused(Refusal::NoFurther),
+        End::Damaged => Found::Refused(Refusal::NotSound),
+    }
+}
