@@ -8,11 +8,12 @@ use borrow.Author.Tests.{eqb-true, eqb-false}
 use lib.Dec.{eqb}
 use lib.ListN.{length}
 use Rattle.model.specs.Ipv4.{Hop}
-use Rattle.model.specs.State.{Meaning}
+use Rattle.model.specs.State.{State, Meaning, empty}
 use Rattle.model.specs.Call.{Call, Value, next}
-use Rattle.pool.specs.Layout.{word, rules}
-use Rattle.pool.specs.Means.{Sound}
-use Rattle.promise.specs.Promise.{Meant, Promise}
+use Rattle.pool.specs.Layout.{word, rules, size, capacityIn}
+use Rattle.pool.specs.Means.{Means, Sound}
+use Rattle.pool.proofs.Unique.{means-unique}
+use Rattle.promise.specs.Promise.{Meant, Promise, FreshPromise, LookupPromise}
 use Rattle.promise.proofs.Promises.{meant-one, meant-none}
 
 -- words have one meaning
@@ -28,7 +29,7 @@ stable a b f = go (eqb a b) refl
     go true e = eqb-true a b e
     go false e = absurd (f (eqb-false a b e))
 
-module _ (own : ℕ) (c : Call Hop) (ws : List ℕ) (zs : List ℕ) (n : ℕ) (v : Value Hop) (p : Promise own c ws zs n v) (zs' : List ℕ) (n' : ℕ) (v' : Value Hop) (p' : Promise own c ws zs' n' v') where
+module _ (c : Call Hop) (ws : List ℕ) (zs : List ℕ) (n : ℕ) (v : Value Hop) (p : Promise c ws zs n v) (zs' : List ℕ) (n' : ℕ) (v' : Value Hop) (p' : Promise c ws zs' n' v') where
   -- the number, whatever the words
   pub number-pinned : n ≡ n'
   number-pinned =
@@ -37,7 +38,7 @@ module _ (own : ℕ) (c : Call Hop) (ws : List ℕ) (zs : List ℕ) (n : ℕ) (v
       stable n n' never
 
   -- the words past the pool's size, and how many there are
-  pub past-pinned : (i : ℕ) → own ≤ i → word zs i ≡ word zs' i
+  pub past-pinned : (i : ℕ) → size (capacityIn ws) ≤ i → word zs i ≡ word zs' i
   past-pinned i k = p .pastKeeps i k ∙ sym (p' .pastKeeps i k)
 
   pub length-pinned : length zs ≡ length zs'
@@ -53,3 +54,28 @@ module _ (own : ℕ) (c : Call Hop) (ws : List ℕ) (zs : List ℕ) (n : ℕ) (v
   -- a refusal leaves every word
   pub refusal-pinned : (n ≡ 0 → ⊥) → zs ≡ zs'
   refusal-pinned z = p .refusalKeeps z ∙ sym (p' .refusalKeeps (λ e. z (number-pinned ∙ e)))
+
+-- a fresh table: the number whatever the words, and where it is accepted the meaning
+module _ (c : ℕ) (ws zs zs' : List ℕ) (n n' : ℕ) (p : FreshPromise c ws zs n) (p' : FreshPromise c ws zs' n') where
+  pub fresh-number-pinned : n ≡ n'
+  fresh-number-pinned = p .numberIs none ∙ sym (p' .numberIs none)
+
+  pub fresh-meaning-pinned : n ≡ 0 → (s t : State Hop) → Means zs s → Means zs' t → s ≡ t
+  fresh-meaning-pinned z s t a b = means-unique zs s (empty c) a (p .emptyThen z) ∙ sym (means-unique zs' t (empty c) b (p' .emptyThen (sym fresh-number-pinned ∙ z)))
+
+  pub fresh-refusal-pinned : (n ≡ 0 → ⊥) → zs ≡ zs'
+  fresh-refusal-pinned z = p .refusalKeeps z ∙ sym (p' .refusalKeeps (λ e. z (fresh-number-pinned ∙ e)))
+
+  pub fresh-past-pinned : (i : ℕ) → size c ≤ i → word zs i ≡ word zs' i
+  fresh-past-pinned i k = p .pastKeeps i k ∙ sym (p' .pastKeeps i k)
+
+  pub fresh-length-pinned : length zs ≡ length zs'
+  fresh-length-pinned = p .long ∙ sym (p' .long)
+
+-- a lookup in a sound pool: the number and the value
+module _ (d : ℕ) (ws : List ℕ) (n n' : ℕ) (v v' : Value Hop) (p : LookupPromise d ws n v) (p' : LookupPromise d ws n' v') (s : State Hop) (h : Means ws s) where
+  pub lookup-number-pinned : n ≡ n'
+  lookup-number-pinned = p .numberIs s h ∙ sym (p' .numberIs s h)
+
+  pub lookup-value-pinned : v ≡ v'
+  lookup-value-pinned = p .valueIs s h ∙ sym (p' .valueIs s h)

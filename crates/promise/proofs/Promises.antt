@@ -11,7 +11,7 @@ use Rattle.model.specs.Ipv4.{Hop}
 use Rattle.model.specs.State.{State, Meaning}
 use Rattle.model.specs.Call.{Call, Value, nothing, number, accepted, value, next}
 use Rattle.model.proofs.Numbers.{asks, unsound-gives-9}
-use Rattle.pool.specs.Layout.{word, rules}
+use Rattle.pool.specs.Layout.{word, rules, size, capacityIn}
 use Rattle.pool.specs.Means.{Means, Sound}
 use Rattle.pool.proofs.Unique.{means-unique}
 use Rattle.promise.specs.Promise.{Meant, Promise}
@@ -40,9 +40,9 @@ refused-next c m n e z = rw (refused c m n e z)
 -- ---- promises
 
 -- from the one meaning that the words have
-pub promise-of : (own : ℕ) (c : Call Hop) (ws zs : List ℕ) (n : ℕ) (v : Value Hop) (m : Meaning Hop) → ((x : Meaning Hop) → Meant ws x → x ≡ m) → n ≡ number rules c m → v ≡ value rules c m
-    → Meant zs (next rules c m) → ((n ≡ 0 → ⊥) → zs ≡ ws) → length zs ≡ length ws → ((i : ℕ) → own ≤ i → word zs i ≡ word ws i) → Promise own c ws zs n v
-promise-of own c ws zs n v m one a b d e f g = record {
+pub promise-of : (c : Call Hop) (ws zs : List ℕ) (n : ℕ) (v : Value Hop) (m : Meaning Hop) → ((x : Meaning Hop) → Meant ws x → x ≡ m) → n ≡ number rules c m → v ≡ value rules c m
+    → Meant zs (next rules c m) → ((n ≡ 0 → ⊥) → zs ≡ ws) → length zs ≡ length ws → ((i : ℕ) → size (capacityIn ws) ≤ i → word zs i ≡ word ws i) → Promise c ws zs n v
+promise-of c ws zs n v m one a b d e f g = record {
   numberIs = λ x h. a ∙ ap (number rules c) (sym (one x h));
   valueIs = λ x h. b ∙ ap (value rules c) (sym (one x h));
   meaningIs = λ x h. subst (λ (y : Meaning Hop). Meant zs (next rules c y)) (sym (one x h)) d;
@@ -52,21 +52,21 @@ promise-of own c ws zs n v m one a b d e f g = record {
 }
 
 -- a refusal, whatever the reason
-pub refuses : (own : ℕ) (c : Call Hop) (ws : List ℕ) (n : ℕ) (m : Meaning Hop) → Meant ws m → ((x : Meaning Hop) → Meant ws x → x ≡ m) → number rules c m ≡ n → (n ≡ 0 → ⊥) → Promise own c ws ws n nothing
-refuses own c ws n m h one e z =
-    promise-of own c ws ws n nothing m one (sym e) (sym (refused-value c m n e z)) (subst (Meant ws) (sym (refused-next c m n e z)) h) (λ k. refl) refl (λ i k. refl)
+pub refuses : (c : Call Hop) (ws : List ℕ) (n : ℕ) (m : Meaning Hop) → Meant ws m → ((x : Meaning Hop) → Meant ws x → x ≡ m) → number rules c m ≡ n → (n ≡ 0 → ⊥) → Promise c ws ws n nothing
+refuses c ws n m h one e z =
+    promise-of c ws ws n nothing m one (sym e) (sym (refused-value c m n e z)) (subst (Meant ws) (sym (refused-next c m n e z)) h) (λ k. refl) refl (λ i k. refl)
 
 -- 9, of a pool that is not sound
-pub refuses-unsound : (own : ℕ) (c : Call Hop) (ws : List ℕ) → asks rules c ≡ true → (Sound ws → ⊥) → Promise own c ws ws 9 nothing
-refuses-unsound own c ws a h = refuses own c ws 9 none h (meant-none ws h) (unsound-gives-9 rules c a) (λ z. nine z)
+pub refuses-unsound : (c : Call Hop) (ws : List ℕ) → asks rules c ≡ true → (Sound ws → ⊥) → Promise c ws ws 9 nothing
+refuses-unsound c ws a h = refuses c ws 9 none h (meant-none ws h) (unsound-gives-9 rules c a) (λ z. nine z)
   where
     nine : _≡_ {A = ℕ} 9 0 → ⊥
     nine z = omega arith
 
 -- another number, of a sound pool
-pub refuses-sound : (own : ℕ) (c : Call Hop) (ws : List ℕ) (n : ℕ) (s : State Hop) → Means ws s → number rules c (some s) ≡ n → (n ≡ 0 → ⊥) → Promise own c ws ws n nothing
-refuses-sound own c ws n s h e z = refuses own c ws n (some s) h (meant-one ws s h) e z
+pub refuses-sound : (c : Call Hop) (ws : List ℕ) (n : ℕ) (s : State Hop) → Means ws s → number rules c (some s) ≡ n → (n ≡ 0 → ⊥) → Promise c ws ws n nothing
+refuses-sound c ws n s h e z = refuses c ws n (some s) h (meant-one ws s h) e z
 
 -- an answer of a sound pool that stays as it is
-pub answers : (own : ℕ) (c : Call Hop) (ws : List ℕ) (v : Value Hop) (s : State Hop) → Means ws s → number rules c (some s) ≡ 0 → value rules c (some s) ≡ v → next rules c (some s) ≡ some s → Promise own c ws ws 0 v
-answers own c ws v s h e f g = promise-of own c ws ws 0 v (some s) (meant-one ws s h) (sym e) (sym f) (subst (Meant ws) (sym g) h) (λ k. refl) refl (λ i k. refl)
+pub answers : (c : Call Hop) (ws : List ℕ) (v : Value Hop) (s : State Hop) → Means ws s → number rules c (some s) ≡ 0 → value rules c (some s) ≡ v → next rules c (some s) ≡ some s → Promise c ws ws 0 v
+answers c ws v s h e f g = promise-of c ws ws 0 v (some s) (meant-one ws s h) (sym e) (sym f) (subst (Meant ws) (sym g) h) (λ k. refl) refl (λ i k. refl)

@@ -6,9 +6,9 @@ use mathlib.Core.Logic.{_⊎_}
 use mathlib.Core.Option.{none, some}
 use lib.ListN.{length}
 use Rattle.model.specs.Ipv4.{Hop}
-use Rattle.model.specs.State.{State, Meaning}
-use Rattle.model.specs.Call.{Call, lookup, Value, number, value, next}
-use Rattle.pool.specs.Layout.{word, rules}
+use Rattle.model.specs.State.{State, Meaning, empty}
+use Rattle.model.specs.Call.{Call, fresh, lookup, Value, number, value, next}
+use Rattle.pool.specs.Layout.{word, rules, size, capacityIn}
 use Rattle.pool.specs.Means.{Means, Sound}
 
 -- What words mean: a state if they are a sound pool, else nothing.
@@ -16,8 +16,8 @@ abbrev pub Meant : List ℕ → Meaning Hop → Type 0
 Meant ws none = Sound ws → ⊥
 Meant ws (some s) = Means ws s
 
--- A call on these words leaves those, with this number and this value; `own` is the pool's size.
-pub record Promise (own : ℕ) (c : Call Hop) (before after : List ℕ) (n : ℕ) (v : Value Hop) : Type 0 where
+-- A call on these words leaves those, with this number and this value.
+pub record Promise (c : Call Hop) (before after : List ℕ) (n : ℕ) (v : Value Hop) : Type 0 where
   -- the number is the model's: 9 first, if the pool is not sound and the call asks
   pub numberIs : (m : Meaning Hop) → Meant before m → n ≡ number rules c m
   -- and so is the value
@@ -28,7 +28,16 @@ pub record Promise (own : ℕ) (c : Call Hop) (before after : List ℕ) (n : ℕ
   pub refusalKeeps : (n ≡ 0 → ⊥) → after ≡ before
   -- "Words past that size are never .. written."
   pub long : length after ≡ length before
-  pub pastKeeps : (i : ℕ) → own ≤ i → word after i ≡ word before i
+  pub pastKeeps : (i : ℕ) → size (capacityIn before) ≤ i → word after i ≡ word before i
+
+-- A fresh table of capacity c asked for: nothing is asked of the words.
+pub record FreshPromise (c : ℕ) (before after : List ℕ) (n : ℕ) : Type 0 where
+  pub numberIs : (m : Meaning Hop) → n ≡ number rules (fresh c (length before)) m
+  -- "The fresh table is empty with no trial open, whatever the buffer held."
+  pub emptyThen : n ≡ 0 → Means after (empty c)
+  pub refusalKeeps : (n ≡ 0 → ⊥) → after ≡ before
+  pub long : length after ≡ length before
+  pub pastKeeps : (i : ℕ) → size c ≤ i → word after i ≡ word before i
 
 -- A lookup writes nothing; in a pool that is not sound it "ends, reads only the pool .. and answers 0, 9 or 13; in a sound one never 9".
 pub record LookupPromise (d : ℕ) (ws : List ℕ) (n : ℕ) (v : Value Hop) : Type 0 where

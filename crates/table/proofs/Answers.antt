@@ -16,15 +16,15 @@ use Rattle.promise.specs.Promise.{Promise}
 use Rattle.promise.proofs.Promises.{answers}
 
 -- "Room left is the capacity less the routes held."
-pub room-answer : (ws : List ℕ) (s : State Hop) → Means ws s → Promise (size (capacityIn ws)) room ws ws 0 (count (word ws 0 - word ws 1))
-room-answer ws s m = answers (size (capacityIn ws)) room ws (count (word ws 0 - word ws 1)) s m refl (ap count (sym (λ i. m .capacityThere i - m .countThere i))) refl
+pub room-answer : (ws : List ℕ) (s : State Hop) → Means ws s → Promise room ws ws 0 (count (word ws 0 - word ws 1))
+room-answer ws s m = answers room ws (count (word ws 0 - word ws 1)) s m refl (ap count (sym (λ i. m .capacityThere i - m .countThere i))) refl
 
 -- a mask is asked of no pool
-pub mask-answer : (own : ℕ) (ws : List ℕ) (w : ℕ) (r : Measured) → r ≡ measuredAs w → Promise own (mask w) ws ws (measuredNumber r) (measuredValue r)
+pub mask-answer : (ws : List ℕ) (w : ℕ) (r : Measured) → r ≡ measuredAs w → Promise (mask w) ws ws (measuredNumber r) (measuredValue r)
 unfolding measuredAs
-mask-answer own ws w r e = subst (λ (x : Measured). Promise own (mask w) ws ws (measuredNumber x) (measuredValue x)) (sym e) (go (goodMask 32 w) refl)
+mask-answer ws w r e = subst (λ (x : Measured). Promise (mask w) ws ws (measuredNumber x) (measuredValue x)) (sym e) (go (goodMask 32 w) refl)
   where
-    go : (b : Bool) → goodMask 32 w ≡ b → Promise own (mask w) ws ws (measuredNumber (measuredAs w)) (measuredValue (measuredAs w))
+    go : (b : Bool) → goodMask 32 w ≡ b → Promise (mask w) ws ws (measuredNumber (measuredAs w)) (measuredValue (measuredAs w))
     go true t = record {
       numberIs = λ m h. rw t;
       valueIs = λ m h. rw t;

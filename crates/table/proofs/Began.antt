@@ -11,13 +11,12 @@ use lib.ListN.{length, getD, set, drop, take, replicate, length-set, length-repl
 use lib.Seq.{length-take-le, length-front, getD-set-same, getD-set-other, getD-append-add, getD-drop}
 use Rattle.model.specs.Ipv4.{Hop}
 use Rattle.model.specs.State.{Meaning, empty}
-use Rattle.model.specs.Call.{fresh, nothing, number}
+use Rattle.model.specs.Call.{fresh, number}
 use Rattle.model.specs.Lawful.{Lawful}
 use Rattle.model.proofs.Lawful.{empty-lawful}
 use Rattle.pool.specs.Layout.{word, rules, size, seat, joint}
 use Rattle.pool.specs.Means.{Means}
-use Rattle.promise.specs.Promise.{Meant, Promise}
-use Rattle.promise.proofs.Promises.{refused-value, refused-next}
+use Rattle.promise.specs.Promise.{FreshPromise}
 
 -- ---- the words after a fresh table is made: the own words cleared, the capacity in front
 
@@ -73,40 +72,32 @@ module _ (ws : List ℕ) (c : ℕ) (fits : size c ≤ length ws) where
     innerPlacesUsed = λ j h k. omega (arith, zeroed-word (joint c j) (omega arith) (omega arith));
   }
 
--- ---- the promise: fresh asks nothing of the words, so its number is the same for every meaning
+-- ---- the promise
 
 -- a refusal
-refused-fresh : (ws : List ℕ) (c n k : ℕ) → ((m : Meaning Hop) → number rules (fresh c n) m ≡ k) → (k ≡ 0 → ⊥) → Promise (size c) (fresh c n) ws ws k nothing
-refused-fresh ws c n k e z = record {
-  numberIs = λ m h. sym (e m);
-  valueIs = λ m h. sym (refused-value (fresh c n) m k (e m) z);
-  meaningIs = λ m h. subst (Meant ws) (sym (refused-next (fresh c n) m k (e m) z)) h;
-  refusalKeeps = λ q. refl;
-  long = refl;
-  pastKeeps = λ i q. refl;
-}
+refused-fresh : (ws : List ℕ) (c k : ℕ) → ((m : Meaning Hop) → k ≡ number rules (fresh c (length ws)) m) → (k ≡ 0 → ⊥) → FreshPromise c ws ws k
+refused-fresh ws c k e z = record { numberIs = e; emptyThen = λ f. absurd (z f); refusalKeeps = λ q. refl; long = refl; pastKeeps = λ i q. refl }
 
-pub no-capacity : (ws : List ℕ) (c n : ℕ) → c ≡ 0 → Promise (size c) (fresh c n) ws ws 1 nothing
-no-capacity ws c n h = refused-fresh ws c n 1 (λ m. rw (eq-eqb c 0 h)) (λ z. omega arith)
+pub no-capacity : (ws : List ℕ) (c : ℕ) → c ≡ 0 → FreshPromise c ws ws 1
+no-capacity ws c h = refused-fresh ws c 1 (λ m. rw (eq-eqb c 0 h)) (λ z. omega arith)
 
-pub past-limit : (ws : List ℕ) (c n : ℕ) → 96 < c → Promise (size c) (fresh c n) ws ws 1 nothing
-past-limit ws c n h =
+pub past-limit : (ws : List ℕ) (c : ℕ) → 96 < c → FreshPromise c ws ws 1
+past-limit ws c h =
     let a : eqb c 0 ≡ false = ne-eqb c 0 (λ z. omega arith) in
     let b : ltb 96 c ≡ true = lt-ltb 96 c h in
-    refused-fresh ws c n 1 (λ m. rw (a, b)) (λ z. omega arith)
+    refused-fresh ws c 1 (λ m. rw (a, b)) (λ z. omega arith)
 
-pub short-buffer : (ws : List ℕ) (c n : ℕ) → (c ≡ 0 → ⊥) → c ≤ 96 → n < size c → Promise (size c) (fresh c n) ws ws 2 nothing
-short-buffer ws c n h k s =
+pub short-buffer : (ws : List ℕ) (c : ℕ) → (c ≡ 0 → ⊥) → c ≤ 96 → length ws < size c → FreshPromise c ws ws 2
+short-buffer ws c h k s =
     let a : eqb c 0 ≡ false = ne-eqb c 0 h in
     let b : ltb 96 c ≡ false = le-ltb 96 c k in
-    let d : ltb n (size c) ≡ true = lt-ltb n (size c) s in
-    refused-fresh ws c n 2 (λ m. rw (a, b, d)) (λ z. omega arith)
+    let d : ltb (length ws) (size c) ≡ true = lt-ltb (length ws) (size c) s in
+    refused-fresh ws c 2 (λ m. rw (a, b, d)) (λ z. omega arith)
 
-pub begins : (ws : List ℕ) (c n k : ℕ) → (c ≡ 0 → ⊥) → c ≤ 96 → n ≡ length ws → k ≡ size c → k ≤ n → Promise (size c) (fresh c n) ws (begun ws k c) 0 nothing
-begins ws c n k h r e f g = rw f (record {
-  numberIs = λ m q. sym (zeroed m);
-  valueIs = λ m q. rw (zeroed m);
-  meaningIs = λ m q. rw (zeroed m) (begun-means ws c fits (empty-lawful rules c n m (rw (zeroed m))));
+pub begins : (ws : List ℕ) (c k : ℕ) → (c ≡ 0 → ⊥) → c ≤ 96 → k ≡ size c → k ≤ length ws → FreshPromise c ws (begun ws k c) 0
+begins ws c k h r f g = rw f (record {
+  numberIs = λ m. sym (zeroed m);
+  emptyThen = λ q. begun-means ws c fits (empty-lawful rules c (length ws) none (rw (zeroed none)));
   refusalKeeps = λ q. absurd (q refl);
   long = begun-long ws (size c) c fits;
   pastKeeps = λ i q. begun-past ws (size c) c fits i (omega arith) q;
@@ -115,16 +106,16 @@ begins ws c n k h r e f g = rw f (record {
     fits : size c ≤ length ws
     fits = omega arith
 
-    zeroed : (m : Meaning Hop) → number rules (fresh c n) m ≡ 0
+    zeroed : (m : Meaning Hop) → number rules (fresh c (length ws)) m ≡ 0
     zeroed m =
         let a : eqb c 0 ≡ false = ne-eqb c 0 h in
         let b : ltb 96 c ≡ false = le-ltb 96 c r in
-        let d : ltb n (size c) ≡ false = le-ltb n (size c) (omega arith) in
+        let d : ltb (length ws) (size c) ≡ false = le-ltb (length ws) (size c) (omega arith) in
         rw (a, b, d)
 
 -- what `clear` left of the own words, with the others behind them
 pub begins-cleared : (ws zs : List ℕ) (c k : ℕ) → (c ≡ 0 → ⊥) → c ≤ 96 → k ≡ size c → k ≤ length ws → zs ≡ replicate (length (take k ws)) 0
-    → Promise (size c) (fresh c (length ws)) ws (set (zs ++ drop k ws) 0 c) 0 nothing
+    → FreshPromise c ws (set (zs ++ drop k ws) 0 c) 0
 begins-cleared ws zs c k h r f g e =
-    subst (λ (l : List ℕ). Promise (size c) (fresh c (length ws)) ws (set (l ++ drop k ws) 0 c) 0 nothing) (sym (e ∙ ap (λ (n : ℕ). replicate n 0) (length-take-le k ws g)))
-    (begins ws c (length ws) k h r refl f g)
+    subst (λ (l : List ℕ). FreshPromise c ws (set (l ++ drop k ws) 0 c) 0) (sym (e ∙ ap (λ (n : ℕ). replicate n 0) (length-take-le k ws g)))
+    (begins ws c k h r f g)

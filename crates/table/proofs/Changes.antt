@@ -44,7 +44,7 @@ module _ (call : Call Hop) (ws : List ℕ) (c n : ℕ) (g : MayRight call ws (Go
   goes-accepted = (g .0, record { means = own-sound ws c n own e (g .0) (g .2) .1 (g .1); capacityIs = g .2; numberIs = g .3 })
 
   -- the own words as the call leaves them, and the words past them as they were
-  pub goes : (zs : List ℕ) → length zs ≡ length (take n ws) → shown 32 call (g .0) ≡ nothing → Does c call (take n ws) zs → Promise (size (capacityIn ws)) call ws (zs ++ drop n ws) 0 nothing
+  pub goes : (zs : List ℕ) → length zs ≡ length (take n ws) → shown 32 call (g .0) ≡ nothing → Does c call (take n ws) zs → Promise call ws (zs ++ drop n ws) 0 nothing
   unfolding goes-accepted
   goes zs l sh d =
       let s = g .0 in
@@ -57,13 +57,13 @@ module _ (call : Call Hop) (ws : List ℕ) (c n : ℕ) (g : MayRight call ws (Go
       let past : (i : ℕ) → size (capacityIn ws) ≤ i → word (zs ++ drop n ws) i ≡ word ws i = λ i k.
       let same : length zs + (i - n) ≡ i = omega (arith, front, e, ap size (own .2)) in
       ap (λ (x : ℕ). getD (zs ++ drop n ws) x 0) (sym same) ∙ getD-append-add zs (drop n ws) (i - n) 0 ∙ getD-drop n ws (i - n) 0 ∙ ap (λ (x : ℕ). getD ws x 0) (ap (λ (x : ℕ). x + (i - n)) (sym front) ∙ same) in
-      promise-of (size (capacityIn ws)) call ws (zs ++ drop n ws) 0 nothing (some s) (meant-one ws s (g .1)) (sym (g .3))
+      promise-of call ws (zs ++ drop n ws) 0 nothing (some s) (meant-one ws s (g .1)) (sym (g .3))
       (sym (ap (λ (b : Bool). cond b (shown 32 call s) nothing) acc ∙ sh)) (subst (Meant (zs ++ drop n ws)) (sym (v .1)) whole) (λ z. absurd (z refl)) long past
 
 -- ---- it is refused
 
-pub refused-by : (own : ℕ) (call : Call Hop) (ws : List ℕ) (x : Refusal) → MayRight call ws (No x) → Promise own call ws ws (refusalNumber x) nothing
-refused-by own call ws x h = record {
+pub refused-by : (call : Call Hop) (ws : List ℕ) (x : Refusal) → MayRight call ws (No x) → Promise call ws ws (refusalNumber x) nothing
+refused-by call ws x h = record {
   numberIs = λ m k. sym (h .0 m k);
   valueIs = λ m k. sym (refused-value call m (refusalNumber x) (h .0 m k) (h .1));
   meaningIs = λ m k. subst (Meant ws) (sym (refused-next call m (refusalNumber x) (h .0 m k) (h .1))) k;

@@ -69,22 +69,22 @@ module _ (ws : List ℕ) (c n : ℕ) (o : OwnRight ws (Capacity c)) (e : n ≡ s
 
   -- a walk's answer, whose line is the last of its call's
   walked : (call : Call Hop) (r : Found) (q : Option (Route Hop)) (s : State Hop) → Means ws s → Says r 14 q → number rules call (some s) ≡ cond (not (present q)) 14 0
-      → value rules call (some s) ≡ found q → next rules call (some s) ≡ some s → Promise (size (capacityIn ws)) call ws ws (foundNumber r) (foundValue r)
+      → value rules call (some s) ≡ found q → next rules call (some s) ≡ some s → Promise call ws ws (foundNumber r) (foundValue r)
   walked call r q s m h a b d =
-      promise-of (size (capacityIn ws)) call ws ws (foundNumber r) (foundValue r) (some s) (meant-one ws s m) (says-number r 14 q h ∙ sym a) (says-value r 14 q (λ z. omega arith) h ∙ sym b)
+      promise-of call ws ws (foundNumber r) (foundValue r) (some s) (meant-one ws s m) (says-number r 14 q h ∙ sym a) (says-value r 14 q (λ z. omega arith) h ∙ sym b)
       (subst (Meant ws) (sym d) m) (λ k. refl) refl (λ i k. refl)
 
   kept : (b : Bool) (m : Meaning Hop) → cond b m m ≡ m
   kept true m = refl
   kept false m = refl
 
-  pub first-answer : (r : Found) (s : State Hop) → Means ws s → Firsts c (take n ws) r → Promise (size (capacityIn ws)) first ws ws (foundNumber r) (foundValue r)
+  pub first-answer : (r : Found) (s : State Hop) → Means ws s → Firsts c (take n ws) r → Promise first ws ws (foundNumber r) (foundValue r)
   first-answer r s m h = walked first r (firstOf (s .routes)) s m (says-of r 14 firstOf (h .exact) s m) refl (shown-found 14 (firstOf (s .routes)) (λ z. omega arith)) (kept (accepted rules first (some s)) (some s))
 
-  pub next-answer : (p : Prefix) (r : Found) (s : State Hop) → Means ws s → wellFormed 32 p ≡ true → Nexts c (take n ws) p r → Promise (size (capacityIn ws)) (after p) ws ws (foundNumber r) (foundValue r)
+  pub next-answer : (p : Prefix) (r : Found) (s : State Hop) → Means ws s → wellFormed 32 p ≡ true → Nexts c (take n ws) p r → Promise (after p) ws ws (foundNumber r) (foundValue r)
   next-answer p r s m t h =
       walked (after p) r (nextAfter p (s .routes)) s m (says-of r 14 (nextAfter p) (h .exact) s m) (rw t) (rw t (shown-found 14 (nextAfter p (s .routes)) (λ z. omega arith))) (kept (accepted rules (after p) (some s)) (some s))
 
 -- a prefix that is not well formed
-pub bad-prefix : (ws : List ℕ) (p : Prefix) (s : State Hop) → Means ws s → wellFormed 32 p ≡ false → Promise (size (capacityIn ws)) (after p) ws ws 3 nothing
-bad-prefix ws p s m f = refuses-sound (size (capacityIn ws)) (after p) ws 3 s m (rw f) (λ z. omega arith)
+pub bad-prefix : (ws : List ℕ) (p : Prefix) (s : State Hop) → Means ws s → wellFormed 32 p ≡ false → Promise (after p) ws ws 3 nothing
+bad-prefix ws p s m f = refuses-sound (after p) ws 3 s m (rw f) (λ z. omega arith)

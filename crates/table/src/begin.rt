@@ -1,9 +1,7 @@
 ghost use mathlib.Core.Path.{_≡_};
 ghost use lib.ListN.{length, replicate};
-ghost use Rattle.model.specs.Call as call;
-ghost use Rattle.pool.specs.Layout.{size};
 ghost use Rattle.route.specs.Answers.{doneNumber};
-ghost use Rattle.promise.specs.Promise.{Promise};
+ghost use Rattle.promise.specs.Promise.{FreshPromise};
 use route::Done;
 use route::Refusal;
 
@@ -20,7 +18,7 @@ fn clear(pool: &mut [u32])
 
 // An empty table in a lent buffer. It does not ask what the buffer held: it is the one call that makes a pool sound.
 pub fn fresh(pool: &mut [u32], capacity: u32) -> Done
-    ensures { λ r. ⌜ Promise (size capacity) (call.fresh capacity (length (now (pool .entry)))) (now (pool .entry)) (now (pool .exit)) (doneNumber r) call.nothing ⌝ }
+    ensures { λ r. ⌜ FreshPromise capacity (now (pool .entry)) (now (pool .exit)) (doneNumber r) ⌝ }
 {
     if capacity == 0 {
         return Done::Refused(Refusal::BadCapacity);

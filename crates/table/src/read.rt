@@ -44,7 +44,7 @@ pub fn lookup(pool: &[u32], destination: u32) -> Found
 
 // The first route of the walk.
 pub fn first(pool: &[u32]) -> Found
-    ensures { λ r. ⌜ Promise (size (capacityIn (now (pool .entry)))) call.first (now (pool .entry)) (now (pool .entry)) (foundNumber r) (foundValue r) ⌝ }
+    ensures { λ r. ⌜ Promise call.first (now (pool .entry)) (now (pool .entry)) (foundNumber r) (foundValue r) ⌝ }
 {
     let Verdict::Sound(capacity) = tested(pool) else {
         return Found::Refused(Refusal::NotSound);
@@ -55,7 +55,7 @@ pub fn first(pool: &[u32]) -> Found
 
 // The next route after a prefix, held or not.
 pub fn next(pool: &[u32], prefix: Prefix) -> Found
-    ensures { λ r. ⌜ Promise (size (capacityIn (now (pool .entry)))) (call.after (prefixOf prefix)) (now (pool .entry)) (now (pool .entry)) (foundNumber r) (foundValue r) ⌝ }
+    ensures { λ r. ⌜ Promise (call.after (prefixOf prefix)) (now (pool .entry)) (now (pool .entry)) (foundNumber r) (foundValue r) ⌝ }
 {
     let Verdict::Sound(capacity) = tested(pool) else {
         return Found::Refused(Refusal::NotSound);
@@ -69,7 +69,7 @@ pub fn next(pool: &[u32], prefix: Prefix) -> Found
 
 // How many routes the table still takes.
 pub fn room_left(pool: &[u32]) -> Room
-    ensures { λ r. ⌜ Promise (size (capacityIn (now (pool .entry)))) call.room (now (pool .entry)) (now (pool .entry)) (roomNumber r) (roomValue r) ⌝ }
+    ensures { λ r. ⌜ Promise call.room (now (pool .entry)) (now (pool .entry)) (roomNumber r) (roomValue r) ⌝ }
 {
     let Verdict::Sound(_) = tested(pool) else {
         return Room::Refused(Refusal::NotSound);
@@ -79,7 +79,7 @@ pub fn room_left(pool: &[u32]) -> Room
 
 // The length of a mask. It is asked of no pool: whatever words there are, it leaves them.
 pub fn mask_length(mask: u32) -> Measured
-    ensures { λ r. ⌜ ((own : ℕ) (ws : List ℕ) → Promise own (call.mask mask) ws ws (measuredNumber r) (measuredValue r)) ⌝ }
+    ensures { λ r. ⌜ ((ws : List ℕ) → Promise (call.mask mask) ws ws (measuredNumber r) (measuredValue r)) ⌝ }
 {
     route::measure(mask)
 }

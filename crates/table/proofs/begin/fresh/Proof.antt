@@ -9,10 +9,10 @@ use Rattle.table.proofs.begin.fresh.Statement.{statement}
 use Rattle.table.proofs.begin.fresh.Tie as tie
 
 returns : tie.Need-returns
-returns c = no-capacity (c .before .before .args .pool .now) (c .before .before .args .capacity) _ (c .if1 .taken)
+returns c = no-capacity (c .before .before .args .pool .now) (c .before .before .args .capacity) (c .if1 .taken)
 
 returns-2 : tie.Need-returns-2
-returns-2 c = past-limit (c .before .before .before .args .pool .now) (c .before .before .before .args .capacity) _ (omega (arith, c .if2 .taken))
+returns-2 c = past-limit (c .before .before .before .args .pool .now) (c .before .before .before .args .capacity) (omega (arith, c .if2 .taken))
 
 wide-requires : tie.Need-wide-requires
 wide-requires c κs = search needs
@@ -23,7 +23,7 @@ size-of-requires c κs = search needs
 returns-3 : tie.Need-returns-3
 returns-3 c =
     let e = c .before .size-of .ensures ∙ ap size (c .before .before .wide .ensures) in
-    short-buffer (c .before .before .before .before .before .before .args .pool .now) (c .before .before .before .before .before .before .args .capacity) _ (c .before .before .before .before .if1 .left) (omega (arith, c .before .before .before .if2 .left)) (omega (arith, e))
+    short-buffer (c .before .before .before .before .before .before .args .pool .now) (c .before .before .before .before .before .before .args .capacity) (c .before .before .before .before .if1 .left) (omega (arith, c .before .before .before .if2 .left)) (omega (arith, e))
 
 slice-relend-prefix-clear : tie.Need-slice-relend-prefix-clear
 slice-relend-prefix-clear c = search needs

@@ -38,7 +38,7 @@ same-length-2 : tie.Need-same-length-2
 same-length-2 c = search needs
 
 returns-2 : tie.Need-returns-2
-returns-2 c = refused-by _ (add (routeOf (c .before .before .before .before .before .before .args .route))) (c .before .before .before .before .before .before .args .pool .now) (c .before .refusal .given .0 .0) (subst (MayRight (add (routeOf (c .before .before .before .before .before .before .args .route))) (c .before .before .before .before .before .before .args .pool .now)) (c .before .refusal .given .1) (c .before .before .before .may-add .ensures))
+returns-2 c = refused-by (add (routeOf (c .before .before .before .before .before .before .args .route))) (c .before .before .before .before .before .before .args .pool .now) (c .before .refusal .given .0 .0) (subst (MayRight (add (routeOf (c .before .before .before .before .before .before .args .route))) (c .before .before .before .before .before .before .args .pool .now)) (c .before .refusal .given .1) (c .before .before .before .may-add .ensures))
 
 pub add-spec : {M : Type 1} → statement M
 add-spec =

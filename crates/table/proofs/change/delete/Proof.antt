@@ -38,7 +38,7 @@ same-length-2 : tie.Need-same-length-2
 same-length-2 c = search needs
 
 returns-2 : tie.Need-returns-2
-returns-2 c = refused-by _ (delete (prefixOf (c .before .before .before .before .before .before .args .prefix))) (c .before .before .before .before .before .before .args .pool .now) (c .before .refusal .given .0 .0) (subst (MayRight (delete (prefixOf (c .before .before .before .before .before .before .args .prefix))) (c .before .before .before .before .before .before .args .pool .now)) (c .before .refusal .given .1) (c .before .before .before .may-delete .ensures))
+returns-2 c = refused-by (delete (prefixOf (c .before .before .before .before .before .before .args .prefix))) (c .before .before .before .before .before .before .args .pool .now) (c .before .refusal .given .0 .0) (subst (MayRight (delete (prefixOf (c .before .before .before .before .before .before .args .prefix))) (c .before .before .before .before .before .before .args .pool .now)) (c .before .refusal .given .1) (c .before .before .before .may-delete .ensures))
 
 pub delete-spec : {M : Type 1} → statement M
 delete-spec =

@@ -37,7 +37,7 @@ same-length-2 : tie.Need-same-length-2
 same-length-2 c = search needs
 
 returns-2 : tie.Need-returns-2
-returns-2 c = refused-by _ stepBack (c .before .before .before .before .before .before .args .pool .now) (c .before .refusal .given .0 .0) (subst (MayRight stepBack (c .before .before .before .before .before .before .args .pool .now)) (c .before .refusal .given .1) (c .before .before .before .may-step-back .ensures))
+returns-2 c = refused-by stepBack (c .before .before .before .before .before .before .args .pool .now) (c .before .refusal .given .0 .0) (subst (MayRight stepBack (c .before .before .before .before .before .before .args .pool .now)) (c .before .refusal .given .1) (c .before .before .before .may-step-back .ensures))
 
 pub step-back-spec : {M : Type 1} → statement M
 step-back-spec =

@@ -19,7 +19,7 @@ enum-told : tie.Need-enum-told
 enum-told c = search needs
 
 returns : tie.Need-returns
-returns c = refuses-unsound _ first (c .before .before .before .before .args .pool .now) refl (subst (TestedRight (c .before .before .before .before .args .pool .now)) (c .enum-told .given .1) (c .before .before .tested .ensures))
+returns c = refuses-unsound first (c .before .before .before .before .args .pool .now) refl (subst (TestedRight (c .before .before .before .before .args .pool .now)) (c .enum-told .given .1) (c .before .before .tested .ensures))
 
 size-of-requires : tie.Need-size-of-requires
 size-of-requires c κs = let v = subst (TestedRight (c .before .before .before .before .before .args .pool .now)) (c .before .capacity .given .1) (c .before .before .before .tested .ensures) in omega (arith, sound-own (c .before .before .before .before .before .args .pool .now) _ v .1)

@@ -7,7 +7,7 @@ measure-requires : tie.Need-measure-requires
 measure-requires c κs = search needs
 
 returns : tie.Need-returns
-returns c own ws = mask-answer own ws (c .before .args .mask) (c .measure .result) (c .measure .ensures)
+returns c ws = mask-answer ws (c .before .args .mask) (c .measure .result) (c .measure .ensures)
 
 pub mask-length-spec : {M : Type 1} → statement M
 mask-length-spec = tie.close (tie.spec measure-requires returns)

@@ -21,7 +21,7 @@ enum-told : tie.Need-enum-told
 enum-told c = search needs
 
 returns : tie.Need-returns
-returns c = refuses-unsound _ (after (prefixOf (c .before .before .before .before .args .prefix))) (c .before .before .before .before .args .pool .now) refl (subst (TestedRight (c .before .before .before .before .args .pool .now)) (c .enum-told .given .1) (c .before .before .tested .ensures))
+returns c = refuses-unsound (after (prefixOf (c .before .before .before .before .args .prefix))) (c .before .before .before .before .args .pool .now) refl (subst (TestedRight (c .before .before .before .before .args .pool .now)) (c .enum-told .given .1) (c .before .before .tested .ensures))
 
 well-formed-requires : tie.Need-well-formed-requires
 well-formed-requires c κs = search needs

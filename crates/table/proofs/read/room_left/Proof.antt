@@ -18,7 +18,7 @@ enum-told-2 : tie.Need-enum-told-2
 enum-told-2 c = search needs
 
 returns : tie.Need-returns
-returns c = refuses-unsound _ room (c .before .before .before .before .args .pool .now) refl (subst (TestedRight (c .before .before .before .before .args .pool .now)) (c .enum-told2 .given .1) (c .before .before .tested .ensures))
+returns c = refuses-unsound room (c .before .before .before .before .args .pool .now) refl (subst (TestedRight (c .before .before .before .before .args .pool .now)) (c .enum-told2 .given .1) (c .before .before .tested .ensures))
 
 shared-slice-read-t5 : tie.Need-shared-slice-read-t5
 shared-slice-read-t5 c = let v = subst (TestedRight (c .before .before .before .before .before .args .pool .now)) (c .before .enum-told .given .1) (c .before .before .before .tested .ensures) in omega (arith, v .1 .longEnough)
