@@ -150,6 +150,14 @@ module _ {P : Type 0} (R : Rules P) where
       go closed e w = w
       go (opened cs) e w = absurd (true≢false e)
 
+  -- a trial is open just where the transcript says so
+  pub open-agrees : (s : State P) (t : Told P) → Agrees s t → isOpen (s .trial) ≡ t .inTrial
+  open-agrees s t a = go (s .trial) (a .trial)
+    where
+      go : (u : Trial P) → TrialAgrees u t (s .routes) → isOpen u ≡ t .inTrial
+      go closed w = sym (w .0)
+      go (opened cs) w = sym (w .0)
+
   -- where a change was made, what is told of it is what was made
   told-change : (s : State P) (t : Told P) (c : Call P) (d : Deed P) → Agrees s t → Changed s c d → (z : State P) → next R c (some s) ≡ some z → Agrees z (noted t d)
   told-change s t c d a h z e =

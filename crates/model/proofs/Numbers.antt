@@ -1,15 +1,16 @@
 -- The numbers: each is given exactly when its line holds and no earlier one does, and a call is accepted exactly when no line holds.
 use Prim.Native.Nat.{ℕ}
 use mathlib.Core.Path.{_≡_, refl, sym, _∙_}
-use mathlib.Core.Bool.{Bool, true, false, not, cond, _&&_, true≢false}
+use mathlib.Core.Bool.{Bool, true, false, not, cond, _&&_, _||_, or-true, true≢false}
 use mathlib.Core.List.{List, [], _∷_}
 use mathlib.Core.Logic.{_⊎_, inl, inr, _↔_}
 use mathlib.Core.Option.{none, some}
+use native.Mathlib.Omega.{arith}
 use borrow.Author.Tests.{eqb-true, eq-eqb, not-true}
 use lib.Dec.{eqb}
 use Rattle.model.specs.Prefix.{wellFormed}
 use Rattle.model.specs.Routes.{Route, holds}
-use Rattle.model.specs.State.{Rules, State, Meaning, full}
+use Rattle.model.specs.State.{Rules, State, Meaning, full, isOpen}
 use Rattle.model.specs.Call.{Call, fresh, add, delete, change, lookup, first, after, room, mask, openTrial, keep, backOut, stepBack, Line, firstDue, due, number, accepted, trialFull}
 use Rattle.model.proofs.Tests.{both}
 
@@ -122,3 +123,45 @@ module _ {P : Type 0} (R : Rules P) where
   unsound-gives-9 keep t = refl
   unsound-gives-9 backOut t = refl
   unsound-gives-9 stepBack t = refl
+
+-- ---- a number that is given has a line that holds
+
+abbrev lineOf : ℕ → List Line → Bool
+lineOf n [] = false
+lineOf n (l ∷ ls) = eqb (l .0) n && l .1 || lineOf n ls
+
+given-line : (n : ℕ) (ls : List Line) → firstDue ls ≡ n → (n ≡ 0 → ⊥) → lineOf n ls ≡ true
+given-line n [] e z = absurd (z (sym e))
+given-line n (l ∷ ls) e z = go (l .1) refl (given-line n ls)
+  where
+    go : (b : Bool) → l .1 ≡ b → (firstDue ls ≡ n → (n ≡ 0 → ⊥) → lineOf n ls ≡ true) → lineOf n (l ∷ ls) ≡ true
+    go true t ih = let f : l .0 ≡ n = rw t at e in rw (t, eq-eqb (l .0) n f)
+    go false t ih = let f : firstDue ls ≡ n = rw t at e in rw (t, ih f z) (or-true (eqb (l .0) n && false))
+
+module _ {P : Type 0} (R : Rules P) where
+  line-of : (c : Call P) (m : Meaning P) → number R c m ≡ 7 → lineOf 7 (due R c m) ≡ true
+  line-of c m e = given-line 7 (due R c m) e (λ z. omega (arith, z))
+
+  -- 7 is given only where the routes held equal the capacity
+  pub seven-full : (c : Call P) (s : State P) → number R c (some s) ≡ 7 → full s ≡ true
+  seven-full (fresh c n) s e = absurd (true≢false (sym (line-of (fresh c n) (some s) e)))
+  seven-full (add r) s e = or-false (full s) (line-of (add r) (some s) e)
+    where
+      or-false : (b : Bool) → (b || false) ≡ true → b ≡ true
+      or-false true t = refl
+      or-false false t = t
+  seven-full (delete p) s e = absurd (true≢false (sym (line-of (delete p) (some s) e)))
+  seven-full (change r) s e = absurd (true≢false (sym (line-of (change r) (some s) e)))
+  seven-full (lookup d) s e = absurd (true≢false (sym (line-of (lookup d) (some s) e)))
+  seven-full first s e = absurd (true≢false (sym (line-of first (some s) e)))
+  seven-full (after p) s e = absurd (true≢false (sym (line-of (after p) (some s) e)))
+  seven-full room s e = absurd (true≢false (sym (line-of room (some s) e)))
+  seven-full (mask w) s e = absurd (true≢false (sym (line-of (mask w) (some s) e)))
+  seven-full openTrial s e = absurd (true≢false (sym (line-of openTrial (some s) e)))
+  seven-full keep s e = absurd (true≢false (sym (line-of keep (some s) e)))
+  seven-full backOut s e = absurd (true≢false (sym (line-of backOut (some s) e)))
+  seven-full stepBack s e = absurd (true≢false (sym (line-of stepBack (some s) e)))
+
+  -- "Backing out of an open trial is never refused."
+  pub back-out-open : (s : State P) → isOpen (s .trial) ≡ true → number R backOut (some s) ≡ 0
+  back-out-open s o = rw o

@@ -1,2 +1,4 @@
 pub mod Promises
 pub mod Pinned
+pub mod Runs
+pub mod History
