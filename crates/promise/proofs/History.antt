@@ -4,19 +4,19 @@ use Prim.Native.Nat.{ℕ, _-_}
 use mathlib.Core.Path.{_≡_, refl, sym, ap, subst, _∙_}
 use mathlib.Core.Bool.{true}
 use mathlib.Core.List.{List, [], _∷_, _++_, append-assoc}
-use mathlib.Core.Logic.{_⊎_, inl, inr}
+use mathlib.Core.Logic.{inl, inr}
 use mathlib.Core.Option.{Option, none, some}
 use native.Mathlib.Omega.{arith}
 use borrow.Author.Tests.{eqb-true}
 use lib.ListN.{length}
 use Rattle.model.specs.Prefix.{Prefix, wellFormed}
 use Rattle.model.specs.Routes.{Route, InOrder, firstOf, nextAfter}
-use Rattle.model.specs.Match.{LongestMatch, NoMatch, best}
+use Rattle.model.specs.Match.{best}
 use Rattle.model.specs.Ipv4.{Hop}
 use Rattle.model.specs.State.{State, Meaning, isOpen}
 use Rattle.model.specs.Call.{Call, fresh, first, after, room, lookup, backOut, Value, nothing, route, count, number, value}
 use Rattle.model.specs.Lawful.{AllObey}
-use Rattle.model.specs.History.{told, heardIf, survivors, replay}
+use Rattle.model.specs.History.{told, heardIf}
 use Rattle.model.proofs.History as history
 use Rattle.model.proofs.Match.{best-some, best-none}
 use Rattle.model.proofs.Numbers.{seven-full, back-out-open}
@@ -27,30 +27,8 @@ use Rattle.pool.specs.Layout.{rules}
 use Rattle.pool.specs.Means.{Means, Sound}
 use Rattle.promise.specs.Promise.{Promise, LookupPromise}
 use Rattle.promise.specs.Run.{Ran}
+use Rattle.promise.specs.Demand.{made, Shows, Walked, ended, shown, LooksUp, Everywhere}
 use Rattle.promise.proofs.Runs.{behind, stands, stands-at}
-
--- What the survivors make of an empty table.
-abbrev pub made : List (Call Hop × ℕ) → List (Route Hop)
-made xs = replay (survivors xs)
-
--- What a step of the walk answers, where these routes are still to come.
-abbrev pub Shows : List (Route Hop) → ℕ → Value Hop → Type 0
-Shows [] n v = (n ≡ 14) × (v ≡ nothing)
-Shows (x ∷ rest) n v = (n ≡ 0) × (v ≡ route x)
-
--- The walk as a caller makes it: a question and, after each route that is shown, the question for the next, until 14. These routes were shown.
-pub data Walked (ws : List ℕ) : Call Hop → List (Route Hop) → Type 0 where
-  ended : (c : Call Hop) (v : Value Hop) → Promise c ws ws 14 v → Walked ws c []
-  shown : (c : Call Hop) (x : Route Hop) (l : List (Route Hop)) → Promise c ws ws 0 (route x) → Walked ws (after (x .prefix)) l → Walked ws c (x ∷ l)
-
--- What a lookup answers among these routes.
-abbrev pub LooksUp : ℕ → List (Route Hop) → ℕ → Value Hop → Type 0
-LooksUp d l n v = ((n ≡ 0) × ((x : Route Hop) × (v ≡ route x) × LongestMatch 32 d l x)) ⊎ ((n ≡ 13) × (v ≡ nothing) × NoMatch 32 d l)
-
--- At each moment of a transcript: of the call, its number and the transcript before it.
-abbrev pub Everywhere : (Call Hop → ℕ → List (Call Hop × ℕ) → Type 0) → List (Call Hop × ℕ) → Type 0
-Everywhere F [] = Unit {0}
-Everywhere F (x ∷ xs) = F (x .0) (x .1) xs × Everywhere F xs
 
 -- a law that the model keeps at each call holds at each moment of a run
 everywhere : (F : Call Hop → ℕ → List (Call Hop × ℕ) → Type 0) → ((c n : ℕ) → F (fresh c n) 0 [])

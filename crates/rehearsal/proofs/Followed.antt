@@ -21,7 +21,8 @@ use Rattle.pool.specs.Layout.{rules, size}
 use Rattle.pool.specs.Means.{Means}
 use Rattle.promise.specs.Promise.{Meant, Promise, FreshPromise, LookupPromise}
 use Rattle.promise.specs.Run.{Ran, begun, called, looked}
-use Rattle.promise.proofs.History.{made, run-routes}
+use Rattle.promise.specs.Demand.{made}
+use Rattle.promise.proofs.History.{run-routes}
 use Rattle.rehearsal.specs.Transcript.{by, transcript, left}
 
 -- a run, and what its words mean
