@@ -1,5 +1,5 @@
 ghost use mathlib.Core.Path.{_≡_};
-ghost use Rattle.route.specs.Answers.{refusalNumber};
+ghost use Rattle.route.specs.Answers.{refusalNumber, foundNumber, roomNumber, measuredNumber, doneNumber};
 ghost use Rattle.route.specs.Masks.{measuredAs};
 use super::hop::Route;
 use super::prefix::Length;
@@ -53,16 +53,52 @@ pub enum Found {
     Refused(Refusal),
 }
 
+impl Found {
+    // The number of document 01, for a caller that goes on without the route.
+    pub fn number(self) -> u32
+        ensures { λ r. ⌜ r ≡ foundNumber self ⌝ }
+    {
+        match self {
+            Found::Route(_) => 0,
+            Found::Refused(refusal) => refusal.number(),
+        }
+    }
+}
+
 // How much room is left.
 pub enum Room {
     Left(u32),
     Refused(Refusal),
 }
 
+impl Room {
+    // The number of document 01.
+    pub fn number(self) -> u32
+        ensures { λ r. ⌜ r ≡ roomNumber self ⌝ }
+    {
+        match self {
+            Room::Left(_) => 0,
+            Room::Refused(refusal) => refusal.number(),
+        }
+    }
+}
+
 // The length of a mask.
 pub enum Measured {
     Length(Length),
     Refused(Refusal),
+}
+
+impl Measured {
+    // The number of document 01.
+    pub fn number(self) -> u32
+        ensures { λ r. ⌜ r ≡ measuredNumber self ⌝ }
+    {
+        match self {
+            Measured::Length(_) => 0,
+            Measured::Refused(refusal) => refusal.number(),
+        }
+    }
 }
 
 // A prefix made of an address and a mask.
@@ -75,6 +111,18 @@ pub enum Masked {
 pub enum Done {
     Yes,
     Refused(Refusal),
+}
+
+impl Done {
+    // The number of document 01.
+    pub fn number(self) -> u32
+        ensures { λ r. ⌜ r ≡ doneNumber self ⌝ }
+    {
+        match self {
+            Done::Yes => 0,
+            Done::Refused(refusal) => refusal.number(),
+        }
+    }
 }
 
 // The length of a mask, or that it has a hole.
