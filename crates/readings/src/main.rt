@@ -5,10 +5,9 @@ mod words;
 
 use route::Length;
 use route::Prefix;
-use show::Pool;
 
 // The destinations that every pool is asked for.
-fn ask_lookups(pool: &Pool) {
+fn ask_lookups(pool: &[u32]) {
     show::lookup(pool, words::ip(0, 0, 0, 0));
     show::lookup(pool, words::ip(10, 1, 2, 3));
     show::lookup(pool, words::ip(112, 0, 0, 1));
@@ -27,7 +26,7 @@ fn ask_lookups(pool: &Pool) {
 }
 
 // The prefixes after which every pool is asked for the next route: held or not, and three that are none.
-fn ask_nexts(pool: &Pool) {
+fn ask_nexts(pool: &[u32]) {
     show::next(pool, Prefix::DEFAULT);
     show::next(pool, Prefix::host(words::ip(0, 0, 0, 0)));
     show::next(pool, Prefix::new(words::ip(127, 0, 0, 0), Length(16)));
@@ -42,7 +41,7 @@ fn ask_nexts(pool: &Pool) {
 }
 
 // All that a pool is asked.
-fn ask(title: &[u8], pool: &Pool) {
+fn ask(title: &[u8], pool: &[u32]) {
     show::title(title);
     show::sound(pool);
     show::room(pool);

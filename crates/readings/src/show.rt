@@ -3,12 +3,8 @@ use route::Found;
 use route::Hop;
 use route::Measured;
 use route::Prefix;
-use route::Refusal;
 use route::Room;
 use route::Route;
-
-// The words of a pool of capacity 16.
-pub type Pool = [u32; 1224];
 
 fn text(bytes: &[u8]) {
     io::write_all(1, bytes);
@@ -61,26 +57,28 @@ fn route(r: Route) {
     hop(end);
 }
 
-fn refusal(r: Refusal) {
-    number(r.number());
-}
-
-// A route, or the number of the refusal.
-fn found(f: Found) {
-    match f {
-        Found::Route(r) => route(r),
-        Found::Refused(r) => refusal(r),
-    }
+fn number_line(n: u32) {
+    number(n);
     line_end();
 }
 
-pub fn title(words: &[u8]) {
+// A route, or the number of the refusal.
+fn found(answer: Found) {
+    let Found::Route(r) = answer else {
+        number_line(answer.number());
+        return;
+    };
+    route(r);
+    line_end();
+}
+
+pub(crate) fn title(words: &[u8]) {
     text(b"== ");
     text(words);
     line_end();
 }
 
-pub fn sound(pool: &Pool) {
+pub(crate) fn sound(pool: &[u32]) {
     if table::sound(pool) {
         text(b"sound yes\n");
     } else {
@@ -88,23 +86,24 @@ pub fn sound(pool: &Pool) {
     }
 }
 
-pub fn room(pool: &Pool) {
+pub(crate) fn room(pool: &[u32]) {
     text(b"room ");
-    match table::room_left(pool) {
-        Room::Left(left) => number(left),
-        Room::Refused(r) => refusal(r),
-    }
-    line_end();
+    let answer = table::room_left(pool);
+    let Room::Left(left) = answer else {
+        number_line(answer.number());
+        return;
+    };
+    number_line(left);
 }
 
-pub fn lookup(pool: &Pool, destination: u32) {
+pub(crate) fn lookup(pool: &[u32], destination: u32) {
     text(b"lookup ");
     address(destination);
     text(b": ");
     found(table::lookup(pool, destination));
 }
 
-pub fn next(pool: &Pool, after: Prefix) {
+pub(crate) fn next(pool: &[u32], after: Prefix) {
     text(b"after ");
     prefix(after);
     text(b": ");
@@ -112,7 +111,7 @@ pub fn next(pool: &Pool, after: Prefix) {
 }
 
 // The walk from the first route to the refusal at its end. A walk that never ends is cut off, and then the lines differ.
-pub fn walk(pool: &Pool) {
+pub(crate) fn walk(pool: &[u32]) {
     let mut at = table::first(pool);
     for _ in 0..40usize {
         text(b"walk ");
@@ -124,13 +123,14 @@ pub fn walk(pool: &Pool) {
     }
 }
 
-pub fn mask(m: u32) {
+pub(crate) fn mask(m: u32) {
     text(b"mask ");
     address(m);
     text(b": ");
-    match table::mask_length(m) {
-        Measured::Length(length) => number(length.0),
-        Measured::Refused(r) => refusal(r),
-    }
-    line_end();
+    let answer = table::mask_length(m);
+    let Measured::Length(length) = answer else {
+        number_line(answer.number());
+        return;
+    };
+    number_line(length.0);
 }

@@ -1,36 +1,55 @@
 // Sound pools of capacity 16, word by word. The layout is read off docs/POOL.md, not taken from the code that is under test.
-ghost use Prim.Native.Nat.{_<_};
-use super::show::Pool;
+ghost use mathlib.Core.Path.{_≡_};
+ghost use Rattle.model.specs.Examples.{ip};
+
+pub(crate) type Pool = [u32; 1224];
 
 // The gateway of the bsdi table, 140.252.13.33.
 const GATEWAY: u32 = 0x8cfc0d21;
 
 // An address from its four numbers.
-pub fn ip(a: u8, b: u8, c: u8, d: u8) -> u32 {
-    ((a as u32) << 24) | ((b as u32) << 16) | ((c as u32) << 8) | (d as u32)
+pub(crate) fn ip(a: u8, b: u8, c: u8, d: u8) -> u32
+    ensures { λ r. ⌜ r ≡ ip a b c d ⌝ }
+{
+    ((a as u32 * 256 + b as u32) * 256 + c as u32) * 256 + d as u32
 }
 
-// The words of a route place: kind, port, gateway, address, length, next link.
-fn put_route(pool: &mut Pool, i: usize, words: [u32; 6])
-    requires { ⌜ i < 16 ⌝ }
-{
-    let at = 8 + 8 * i;
-    pool[at] = words[0];
-    pool[at + 1] = words[1];
-    pool[at + 2] = words[2];
-    pool[at + 3] = words[3];
-    pool[at + 4] = words[4];
-    pool[at + 5] = words[5];
+// The words of a route place: kind, port, gateway, address, length, next link. There is no place past the last; what is not
+// written there is missing from the answers.
+fn put_route(pool: &mut Pool, i: usize, words: [u32; 6]) {
+    if i < 16 {
+        let at = 8 + 8 * i;
+        pool[at] = words[0];
+        pool[at + 1] = words[1];
+        pool[at + 2] = words[2];
+        pool[at + 3] = words[3];
+        pool[at + 4] = words[4];
+        pool[at + 5] = words[5];
+    }
 }
 
 // The words of an inner place: mark, left link, right link.
-fn put_inner(pool: &mut Pool, j: usize, words: [u32; 3])
-    requires { ⌜ j < 16 ⌝ }
-{
-    let at = 136 + 4 * j;
-    pool[at] = words[0];
-    pool[at + 1] = words[1];
-    pool[at + 2] = words[2];
+fn put_inner(pool: &mut Pool, j: usize, words: [u32; 3]) {
+    if j < 16 {
+        let at = 136 + 4 * j;
+        pool[at] = words[0];
+        pool[at + 1] = words[1];
+        pool[at + 2] = words[2];
+    }
+}
+
+// The words of a change: action, address, length, and the kinds and ports of the hops before and after it.
+fn put_change(pool: &mut Pool, k: usize, words: [u32; 7]) {
+    if k < 64 {
+        let at = 200 + 16 * k;
+        pool[at] = words[0];
+        pool[at + 1] = words[1];
+        pool[at + 2] = words[2];
+        pool[at + 3] = words[3];
+        pool[at + 4] = words[4];
+        pool[at + 6] = words[5];
+        pool[at + 7] = words[6];
+    }
 }
 
 // The head: capacity 16, routes held, root link. What no word is written to holds 0, but for the words that no one uses.
@@ -44,26 +63,26 @@ fn start(held: u32, root: u32) -> Pool {
     pool
 }
 
-pub fn empty() -> Pool {
+pub(crate) fn empty() -> Pool {
     start(0, 0)
 }
 
 // 10.0.0.0/8 direct 1, in place 9.
-pub fn one() -> Pool {
+pub(crate) fn one() -> Pool {
     let mut pool = start(1, 19);
     put_route(&mut pool, 9, [1, 1, 0, ip(10, 0, 0, 0), 8, 0]);
     pool
 }
 
 // 0.0.0.0/0, in the last place.
-pub fn default_alone() -> Pool {
+pub(crate) fn default_alone() -> Pool {
     let mut pool = start(1, 31);
     put_route(&mut pool, 15, [2, 0, GATEWAY, 0, 0, 0]);
     pool
 }
 
 // 127.0.0.0/24 in place 2, and behind it 127.0.0.0/8 in place 0.
-pub fn doubled() -> Pool {
+pub(crate) fn doubled() -> Pool {
     let mut pool = start(2, 5);
     put_route(&mut pool, 2, [2, 0, GATEWAY, ip(127, 0, 0, 0), 24, 1]);
     put_route(&mut pool, 0, [3, 0, 0, ip(127, 0, 0, 0), 8, 0]);
@@ -72,7 +91,7 @@ pub fn doubled() -> Pool {
 
 // 127.0.0.0/8 and 127.0.0.1/32, which part at bit 31; the inner place is the last one. The words that reject does not use
 // hold something.
-pub fn two_leaves() -> Pool {
+pub(crate) fn two_leaves() -> Pool {
     let mut pool = start(2, 32);
     put_route(&mut pool, 0, [3, 99, 98, ip(127, 0, 0, 0), 8, 0]);
     put_route(&mut pool, 1, [1, 2, 97, ip(127, 0, 0, 1), 32, 0]);
@@ -81,25 +100,13 @@ pub fn two_leaves() -> Pool {
 }
 
 // The same in a trial, in which 10.0.0.0/8 was deleted and 127.0.0.1/32 was added, then changed from reject to direct 2.
-pub fn in_a_trial() -> Pool {
+pub(crate) fn in_a_trial() -> Pool {
     let mut pool = two_leaves();
     pool[3] = 1;
     pool[4] = 3;
-    pool[200] = 2;
-    pool[201] = ip(10, 0, 0, 0);
-    pool[202] = 8;
-    pool[203] = 1;
-    pool[204] = 15;
-    pool[216] = 1;
-    pool[217] = ip(127, 0, 0, 1);
-    pool[218] = 32;
-    pool[222] = 3;
-    pool[232] = 3;
-    pool[233] = ip(127, 0, 0, 1);
-    pool[234] = 32;
-    pool[235] = 3;
-    pool[238] = 1;
-    pool[239] = 2;
+    put_change(&mut pool, 0, [2, ip(10, 0, 0, 0), 8, 1, 15, 0, 0]);
+    put_change(&mut pool, 1, [1, ip(127, 0, 0, 1), 32, 0, 0, 3, 0]);
+    put_change(&mut pool, 2, [3, ip(127, 0, 0, 1), 32, 3, 0, 1, 2]);
     pool
 }
 
@@ -133,7 +140,7 @@ fn put_bsdi_tree(pool: &mut Pool) {
     put_inner(pool, 9, [32, 19, 21]);
 }
 
-pub fn bsdi() -> Pool {
+pub(crate) fn bsdi() -> Pool {
     let mut pool = start(11, 2);
     put_bsdi_routes(&mut pool);
     put_bsdi_tree(&mut pool);
@@ -141,7 +148,7 @@ pub fn bsdi() -> Pool {
 }
 
 // With 127.0.0.0/24 via 0 140.252.13.33 in place 11, before the /8 of its address.
-pub fn bsdi_doubled() -> Pool {
+pub(crate) fn bsdi_doubled() -> Pool {
     let mut pool = bsdi();
     pool[1] = 12;
     put_route(&mut pool, 11, [2, 0, GATEWAY, ip(127, 0, 0, 0), 24, 3]);
