@@ -1,10 +1,12 @@
 // One sound pool of capacity 96, and what can be done to it. The words are written after docs/POOL.md, not by the code that is
 // under test: route place i begins at 8 + 8 i, inner place j at 776 + 4 j, change k at 1160 + 16 k.
 ghost use Prim.Native.Nat.{_<_};
-use super::show::Pool;
+
+// The words of a pool of capacity 96.
+pub(crate) type Pool = [u32; 2184];
 
 // 0.0.0.0/0, 127.0.0.0/8 and 127.0.0.1/32 in places 0 to 2; inner places 0 and 1.
-pub fn good() -> Pool {
+pub(crate) fn good() -> Pool {
     let mut pool = [0u32; 2184];
     pool[0] = 96;
     pool[1] = 3;
@@ -27,17 +29,17 @@ pub fn good() -> Pool {
     pool
 }
 
-// One word of it changed.
-pub fn with_word(at: usize, word: u32) -> Pool
-    requires { ⌜ at < 2184 ⌝ }
-{
+// One word of it changed. Past its words there is nothing to change, and the pool stays sound, which the answers show.
+pub(crate) fn with_word(at: usize, word: u32) -> Pool {
     let mut pool = good();
-    pool[at] = word;
+    if at < 2184 {
+        pool[at] = word;
+    }
     pool
 }
 
 // 127.0.0.1 to the left of 127.0.0.0.
-pub fn swapped() -> Pool {
+pub(crate) fn swapped() -> Pool {
     let mut pool = good();
     pool[781] = 5;
     pool[782] = 3;
@@ -55,7 +57,7 @@ fn put_inner(pool: &mut Pool, j: usize, mark: u32, left: u32, right: u32)
 }
 
 // Both sides of inner places 0 to 30 lead to the next one, and both sides of the last to the default route: 2^32 ways down.
-pub fn shared() -> Pool {
+pub(crate) fn shared() -> Pool {
     let mut pool = good();
     for j in 0..31usize {
         let child = (2 * j + 4) as u32;
@@ -66,14 +68,14 @@ pub fn shared() -> Pool {
 }
 
 // The same, but the last inner place is a good one: a test that goes left first meets the fault after it.
-pub fn shared_late() -> Pool {
+pub(crate) fn shared_late() -> Pool {
     let mut pool = shared();
     put_inner(&mut pool, 31, 32, 3, 5);
     pool
 }
 
 // The inner places 0 and 1 are each other's child.
-pub fn cycle() -> Pool {
+pub(crate) fn cycle() -> Pool {
     let mut pool = good();
     put_inner(&mut pool, 0, 2, 4, 4);
     put_inner(&mut pool, 1, 2, 2, 2);
@@ -81,7 +83,7 @@ pub fn cycle() -> Pool {
 }
 
 // All 96 inner places in a ring. The bits grow for 32 of them.
-pub fn long_cycle() -> Pool {
+pub(crate) fn long_cycle() -> Pool {
     let mut pool = good();
     for j in 0..96usize {
         let child = (2 * ((j + 1) % 96) + 2) as u32;
@@ -91,7 +93,7 @@ pub fn long_cycle() -> Pool {
 }
 
 // Places 1 and 2 hold 127.0.0.0/8 and 127.0.0.0/24, and each is the other's next.
-pub fn loop_of_routes() -> Pool {
+pub(crate) fn loop_of_routes() -> Pool {
     let mut pool = good();
     pool[2] = 5;
     pool[21] = 5;
@@ -102,7 +104,7 @@ pub fn loop_of_routes() -> Pool {
 }
 
 // 96 routes of one address in one chain, the lengths of which can't all fall.
-pub fn long_chain() -> Pool {
+pub(crate) fn long_chain() -> Pool {
     let mut pool = [0u32; 2184];
     pool[0] = 96;
     pool[1] = 96;
@@ -118,7 +120,7 @@ pub fn long_chain() -> Pool {
 
 // A chain that goes on to place 96. Its words, those of the inner places 0 and 1, look like a good route 0.0.0.0/0, and a used place
 // outside the tree makes up for the count: nothing else is wrong.
-pub fn beyond() -> Pool {
+pub(crate) fn beyond() -> Pool {
     let mut pool = [0u32; 2184];
     pool[0] = 96;
     pool[1] = 3;
@@ -137,7 +139,7 @@ pub fn beyond() -> Pool {
 }
 
 // An open trial with this many changes standing, in slots that hold 0.
-pub fn standing(count: u32) -> Pool {
+pub(crate) fn standing(count: u32) -> Pool {
     let mut pool = good();
     pool[3] = 1;
     pool[4] = count;
@@ -145,7 +147,7 @@ pub fn standing(count: u32) -> Pool {
 }
 
 // The same, where each slot there is has a good change of 127.0.0.1/32 from reject to reject.
-pub fn standing_good(count: u32) -> Pool {
+pub(crate) fn standing_good(count: u32) -> Pool {
     let mut pool = standing(count);
     for k in 0..64usize {
         let at = 1160 + 16 * k;
@@ -159,7 +161,7 @@ pub fn standing_good(count: u32) -> Pool {
 }
 
 // An open trial with one change, whose hops are reject.
-pub fn change(action: u32, address: u32, length: u32) -> Pool {
+pub(crate) fn change(action: u32, address: u32, length: u32) -> Pool {
     let mut pool = standing(1);
     pool[1160] = action;
     pool[1161] = address;

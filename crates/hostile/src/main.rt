@@ -18,6 +18,11 @@ fn ask(title: &[u8], words: &[u32]) {
     show::text(b"\n");
 }
 
+// The same of the sound pool with one word changed.
+fn ask_word(title: &[u8], at: usize, word: u32) {
+    ask(title, &damage::with_word(at, word));
+}
+
 // The same of the first words alone.
 fn ask_part(title: &[u8], words: &[u32], keep: usize) {
     if keep <= words.len() {
@@ -37,24 +42,18 @@ fn ask_short() {
 
 // The head's numbers.
 fn ask_heads() {
-    ask(b"capacity 0", &damage::with_word(0, 0));
-    ask(b"capacity 97", &damage::with_word(0, 97));
-    ask(b"capacity 4294967295", &damage::with_word(0, 4294967295));
-    ask(
-        b"capacity 95 over the words of 96",
-        &damage::with_word(0, 95),
-    );
-    ask(b"a count that is too high", &damage::with_word(1, 4));
-    ask(b"a count that is too low", &damage::with_word(1, 2));
-    ask(b"no root link", &damage::with_word(2, 0));
-    ask(b"a root link to route place 96", &damage::with_word(2, 193));
-    ask(b"a root link to inner place 96", &damage::with_word(2, 194));
-    ask(
-        b"a root link of 4294967295",
-        &damage::with_word(2, 4294967295),
-    );
-    ask(b"an open-trial word of 2", &damage::with_word(3, 2));
-    ask(b"a change with no trial open", &damage::with_word(4, 1));
+    ask_word(b"capacity 0", 0, 0);
+    ask_word(b"capacity 97", 0, 97);
+    ask_word(b"capacity 4294967295", 0, 4294967295);
+    ask_word(b"capacity 95 over the words of 96", 0, 95);
+    ask_word(b"a count that is too high", 1, 4);
+    ask_word(b"a count that is too low", 1, 2);
+    ask_word(b"no root link", 2, 0);
+    ask_word(b"a root link to route place 96", 2, 193);
+    ask_word(b"a root link to inner place 96", 2, 194);
+    ask_word(b"a root link of 4294967295", 2, 4294967295);
+    ask_word(b"an open-trial word of 2", 3, 2);
+    ask_word(b"a change with no trial open", 4, 1);
     ask(b"all words 4294967295", &[4294967295u32; 2184]);
     ask(b"all words 1", &[1u32; 2184]);
     ask(b"all words 2", &[2u32; 2184]);
@@ -62,34 +61,19 @@ fn ask_heads() {
 
 // One word of a place.
 fn ask_places() {
-    ask(
-        b"a used route place outside the tree",
-        &damage::with_word(768, 3),
-    );
-    ask(
-        b"a used inner place outside the tree",
-        &damage::with_word(1156, 5),
-    );
-    ask(b"a free route place in the tree", &damage::with_word(8, 0));
-    ask(
-        b"a free inner place in the tree",
-        &damage::with_word(776, 0),
-    );
-    ask(b"kind 4", &damage::with_word(8, 4));
-    ask(b"port 16", &damage::with_word(25, 16));
-    ask(b"gateway 0", &damage::with_word(10, 0));
-    ask(b"length 33", &damage::with_word(28, 33));
-    ask(b"a set bit past the length", &damage::with_word(20, 7));
-    ask(b"bit 32", &damage::with_word(780, 33));
-    ask(
-        b"a child that tests its parent's bit",
-        &damage::with_word(780, 2),
-    );
+    ask_word(b"a used route place outside the tree", 768, 3);
+    ask_word(b"a used inner place outside the tree", 1156, 5);
+    ask_word(b"a free route place in the tree", 8, 0);
+    ask_word(b"a free inner place in the tree", 776, 0);
+    ask_word(b"kind 4", 8, 4);
+    ask_word(b"port 16", 25, 16);
+    ask_word(b"gateway 0", 10, 0);
+    ask_word(b"length 33", 28, 33);
+    ask_word(b"a set bit past the length", 20, 7);
+    ask_word(b"bit 32", 780, 33);
+    ask_word(b"a child that tests its parent's bit", 780, 2);
     ask(b"the two sides of a node swapped", &damage::swapped());
-    ask(
-        b"a node that tests the wrong bit",
-        &damage::with_word(780, 31),
-    );
+    ask_word(b"a node that tests the wrong bit", 780, 31);
 }
 
 // Trees and chains that are none.
@@ -107,16 +91,13 @@ fn ask_shapes() {
         b"a cycle of inner places with growing bits",
         &damage::long_cycle(),
     );
-    ask(
-        b"an inner place that is its own child",
-        &damage::with_word(781, 4),
-    );
-    ask(b"a route that is its own next", &damage::with_word(13, 1));
+    ask_word(b"an inner place that is its own child", 781, 4);
+    ask_word(b"a route that is its own next", 13, 1);
     ask(b"a chain that goes round", &damage::loop_of_routes());
     ask(b"a chain of 96 routes", &damage::long_chain());
-    ask(b"a next link to an inner place", &damage::with_word(13, 2));
+    ask_word(b"a next link to an inner place", 13, 2);
     ask(b"a next link to place 96", &damage::beyond());
-    ask(b"two links to one leaf", &damage::with_word(778, 1));
+    ask_word(b"two links to one leaf", 778, 1);
 }
 
 // Standing changes. The first pool is sound, for the sake of the second.
