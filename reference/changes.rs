@@ -1,201 +1,61 @@
-// A second table with nothing in common with the first: a list of routes, and for a trial a pile of copies of it. It prints
-// what the program `changes` must print.
-#[derive(Clone, Copy, PartialEq)]
-struct Route {
-    address: u32,
-    length: u32,
-    port: u32,
-}
+// The run of `changes` over a second table, which has nothing in common with the first (list.rs). It prints what the program
+// `changes` must print.
+mod list;
 
-struct Table {
-    made: bool,
-    capacity: usize,
-    routes: Vec<Route>,
-    // the list before each recorded change, oldest first; none without a trial
-    trial: Option<Vec<Vec<Route>>>,
-}
-
-fn good(address: u32, length: u32) -> bool {
-    length <= 32 && (length == 32 || address & (u32::MAX >> length) == 0)
-}
-
-fn name(address: u32, length: u32) -> String {
-    let b = address.to_be_bytes();
-    format!("{}.{}.{}.{}/{}", b[0], b[1], b[2], b[3], length)
-}
-
-impl Table {
-    fn at(&self, address: u32, length: u32) -> Option<usize> {
-        self.routes.iter().position(|r| r.address == address && r.length == length)
-    }
-
-    fn full_trial(&self) -> bool {
-        self.trial.as_ref().map_or(false, |t| t.len() == 64)
-    }
-
-    fn record(&mut self) {
-        let before = self.routes.clone();
-        if let Some(t) = &mut self.trial {
-            t.push(before);
-        }
-    }
-
-    fn fresh(&mut self, capacity: usize) {
-        let number = if capacity == 0 || capacity > 96 {
-            1
-        } else if 1032 + 12 * capacity > 1059 {
-            2
-        } else {
-            *self = Table { made: true, capacity, routes: vec![], trial: None };
-            0
-        };
-        println!("fresh {}: {}", capacity, number);
-    }
-
-    fn add(&mut self, address: u32, length: u32, port: u32) {
-        let number = if !self.made {
-            9
-        } else if !good(address, length) {
-            3
-        } else if port > 15 {
-            4
-        } else if self.at(address, length).is_some() {
-            5
-        } else if self.full_trial() {
-            8
-        } else if self.routes.len() == self.capacity {
-            7
-        } else {
-            self.record();
-            self.routes.push(Route { address, length, port });
-            0
-        };
-        println!("add {} direct {}: {}", name(address, length), port, number);
-    }
-
-    fn delete(&mut self, address: u32, length: u32) {
-        let number = if !good(address, length) {
-            3
-        } else if self.at(address, length).is_none() {
-            6
-        } else if self.full_trial() {
-            8
-        } else {
-            self.record();
-            let i = self.at(address, length).unwrap();
-            self.routes.remove(i);
-            0
-        };
-        println!("delete {}: {}", name(address, length), number);
-    }
-
-    fn change(&mut self, address: u32, length: u32, port: u32) {
-        let number = if !good(address, length) {
-            3
-        } else if port > 15 {
-            4
-        } else if self.at(address, length).is_none() {
-            6
-        } else if self.full_trial() {
-            8
-        } else {
-            self.record();
-            let i = self.at(address, length).unwrap();
-            self.routes[i].port = port;
-            0
-        };
-        println!("change {} direct {}: {}", name(address, length), port, number);
-    }
-
-    fn open(&mut self) {
-        let number = if self.trial.is_some() { 10 } else { 0 };
-        if number == 0 {
-            self.trial = Some(vec![]);
-        }
-        println!("open: {}", number);
-    }
-
-    fn keep(&mut self) {
-        println!("keep: {}", if self.trial.take().is_some() { 0 } else { 11 });
-    }
-
-    fn back_out(&mut self) {
-        let number = match self.trial.take() {
-            None => 11,
-            Some(copies) => {
-                if let Some(oldest) = copies.first() {
-                    self.routes = oldest.clone();
-                }
-                0
-            }
-        };
-        println!("back out: {}", number);
-    }
-
-    fn step_back(&mut self) {
-        let number = match &mut self.trial {
-            None => 11,
-            Some(copies) => match copies.pop() {
-                None => 12,
-                Some(before) => {
-                    self.routes = before;
-                    0
-                }
-            },
-        };
-        println!("step back: {}", number);
-    }
-
-    fn lookup(&self, to: u32) {
-        let matches = |r: &&Route| r.length == 0 || (r.address ^ to) >> (32 - r.length) == 0;
-        match self.routes.iter().filter(matches).max_by_key(|r| r.length) {
-            Some(r) => println!("lookup {}: {} direct {}", name(to, 32), name(r.address, r.length), r.port),
-            None => println!("lookup {}: 13", name(to, 32)),
-        }
-    }
-
-    fn lookups(&self) {
-        self.lookup(0x0A000001);
-        self.lookup(0x0A010001);
-        self.lookup(0x0B000001);
-        println!("room {}, sound", self.capacity - self.routes.len());
-        println!("the words past the pool stand");
-    }
-
-    fn eight(&mut self) {
-        self.delete(TEN, 8);
-        self.add(TEN, 8, 1);
-        for port in 2..8 {
-            self.change(TEN, 8, port);
-        }
-    }
-}
+use list::{Hop, Table};
 
 const TEN: u32 = 0x0A000000;
+const GATEWAY: u32 = 0x8CFC0D21;
+
+fn ip(a: u32, b: u32, c: u32, d: u32) -> u32 {
+    a << 24 | b << 16 | c << 8 | d
+}
+
+fn lookups(t: &Table) {
+    t.lookup(0x0A000001);
+    t.lookup(0x0A010001);
+    t.lookup(0x0B000001);
+    t.state();
+    println!("the words past the pool stand");
+}
+
+fn bsdi_lookups(t: &Table) {
+    for to in [0, ip(10, 1, 2, 3), ip(112, 0, 0, 1), ip(127, 0, 0, 1), ip(127, 0, 0, 2), ip(127, 0, 2, 3), u32::MAX] {
+        t.lookup(to);
+    }
+}
+
+fn eight(t: &mut Table) {
+    t.delete(TEN, 8);
+    t.add(TEN, 8, Hop::Direct(1));
+    for port in 2..8 {
+        t.change(TEN, 8, Hop::Direct(port));
+    }
+}
 
 fn begin_and_fill(t: &mut Table) {
     println!("== a fresh table");
-    t.add(TEN, 8, 3);
+    t.add(TEN, 8, Hop::Direct(3));
     for capacity in [0, 97, 3, 2] {
         t.fresh(capacity);
     }
-    t.lookups();
+    lookups(t);
     println!("== a full table");
-    t.add(TEN + 1, 8, 3);
-    t.add(TEN, 33, 16);
-    t.add(TEN, 8, 16);
-    t.add(TEN, 8, 3);
-    t.add(TEN, 8, 4);
-    t.add(TEN, 16, 5);
-    t.lookups();
-    t.add(TEN, 16, 5);
-    t.add(1, 32, 6);
+    t.add(TEN + 1, 8, Hop::Direct(3));
+    t.add(TEN, 33, Hop::Direct(16));
+    t.add(TEN, 8, Hop::Direct(16));
+    t.add(TEN, 8, Hop::Direct(3));
+    t.add(TEN, 8, Hop::Direct(4));
+    t.add(TEN, 16, Hop::Direct(5));
+    lookups(t);
+    t.add(TEN, 16, Hop::Direct(5));
+    t.add(1, 32, Hop::Direct(6));
     t.delete(1, 32);
-    t.change(1, 32, 6);
-    t.change(TEN, 8, 7);
+    t.change(1, 32, Hop::Direct(6));
+    t.change(TEN, 8, Hop::Direct(7));
     t.delete(TEN, 16);
     t.delete(TEN, 16);
-    t.lookups();
+    lookups(t);
 }
 
 fn try_out(t: &mut Table) {
@@ -207,47 +67,113 @@ fn try_out(t: &mut Table) {
     t.open();
     t.step_back();
     t.delete(TEN, 8);
-    t.add(0, 0, 1);
-    t.add(0x0B000001, 32, 2);
-    t.change(0, 0, 9);
-    t.lookups();
+    t.add(0, 0, Hop::Direct(1));
+    t.add(0x0B000001, 32, Hop::Direct(2));
+    t.change(0, 0, Hop::Direct(9));
+    lookups(t);
     t.step_back();
-    t.lookups();
+    lookups(t);
     t.step_back();
     t.step_back();
-    t.lookups();
-    t.add(TEN, 8, 8);
+    lookups(t);
+    t.add(TEN, 8, Hop::Direct(8));
     t.back_out();
-    t.lookups();
+    lookups(t);
     t.step_back();
 }
 
 fn record_full(t: &mut Table) {
     println!("== 64 changes");
-    t.add(TEN, 16, 5);
+    t.add(TEN, 16, Hop::Direct(5));
     t.open();
     for _ in 0..8 {
-        t.eight();
+        eight(t);
     }
-    t.change(TEN, 8, 8);
-    t.add(1, 32, 8);
-    t.add(TEN, 8, 8);
+    t.change(TEN, 8, Hop::Direct(8));
+    t.add(1, 32, Hop::Direct(8));
+    t.add(TEN, 8, Hop::Direct(8));
     t.step_back();
-    t.change(TEN, 8, 9);
+    t.change(TEN, 8, Hop::Direct(9));
     t.delete(TEN, 8);
-    t.lookups();
+    lookups(t);
     t.back_out();
-    t.lookups();
+    lookups(t);
     t.open();
     t.delete(TEN, 8);
     t.keep();
     t.back_out();
-    t.lookups();
+    lookups(t);
+}
+
+// Lengths, ports and gateways at their limits.
+fn try_limits(t: &mut Table) {
+    println!("== limits");
+    t.fresh(2);
+    t.add(ip(127, 0, 0, 1), 8, Hop::Direct(0));
+    t.add(ip(127, 0, 0, 1), 33, Hop::Direct(0));
+    t.add(ip(127, 0, 0, 1), 32, Hop::Direct(16));
+    t.add(ip(127, 0, 0, 1), 32, Hop::Direct(15));
+    t.change(ip(127, 0, 0, 1), 32, Hop::Direct(16));
+    t.change(ip(127, 0, 0, 1), 32, Hop::Via(15, 0));
+    t.add(0, 0, Hop::Via(16, GATEWAY));
+    t.add(0, 0, Hop::Via(0, 0));
+    t.add(0, 0, Hop::Via(15, GATEWAY));
+    t.lookup(ip(127, 0, 0, 1));
+    t.lookup(ip(127, 0, 0, 2));
+    t.change(0, 0, Hop::Reject);
+    t.lookup(ip(127, 0, 0, 2));
+    t.state();
+}
+
+// The bsdi table, then without its default route, then with the /24.
+fn try_bsdi(t: &mut Table) {
+    println!("== bsdi");
+    let gateway = Hop::Via(0, GATEWAY);
+    t.fresh(96);
+    t.add(0, 0, gateway);
+    t.add(ip(127, 0, 0, 0), 8, Hop::Reject);
+    t.add(ip(127, 0, 0, 1), 32, Hop::Direct(2));
+    t.add(ip(128, 32, 33, 5), 32, gateway);
+    t.add(ip(140, 252, 13, 32), 27, Hop::Direct(0));
+    t.add(ip(140, 252, 13, 33), 32, Hop::Direct(0));
+    t.add(ip(140, 252, 13, 34), 32, Hop::Direct(0));
+    t.add(ip(140, 252, 13, 35), 32, Hop::Direct(2));
+    t.add(ip(140, 252, 13, 65), 32, Hop::Direct(1));
+    t.add(ip(224, 0, 0, 0), 8, Hop::Direct(0));
+    t.add(ip(224, 0, 0, 1), 32, Hop::Direct(0));
+    bsdi_lookups(t);
+    t.delete(0, 0);
+    bsdi_lookups(t);
+    t.add(ip(127, 0, 0, 0), 24, gateway);
+    bsdi_lookups(t);
+    t.state();
+}
+
+// As many routes as the largest table takes, and one more.
+fn try_largest(t: &mut Table) {
+    println!("== 96 routes");
+    t.fresh(96);
+    for i in 0..96 {
+        t.add(TEN + 257 * i, 32, Hop::Direct(i % 16));
+    }
+    t.state();
+    t.add(1, 32, Hop::Direct(6));
+    t.add(TEN, 32, Hop::Direct(6));
+    t.delete(TEN, 32);
+    t.add(1, 32, Hop::Direct(6));
+    t.lookup(1);
+    t.lookup(TEN);
+    t.lookup(TEN + 257 * 95);
+    t.state();
 }
 
 fn main() {
-    let mut t = Table { made: false, capacity: 0, routes: vec![], trial: None };
-    begin_and_fill(&mut t);
-    try_out(&mut t);
-    record_full(&mut t);
+    let mut small = Table::unmade(1059);
+    begin_and_fill(&mut small);
+    try_out(&mut small);
+    record_full(&mut small);
+    try_limits(&mut small);
+    let mut largest = Table::unmade(2184);
+    try_bsdi(&mut largest);
+    try_largest(&mut largest);
 }

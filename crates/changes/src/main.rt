@@ -1,28 +1,28 @@
 // Runs the calls that change a table, and prints every answer. The file stdout beside it has what must be printed; a second
 // program, which keeps a list of routes and copies of it, must print the same.
+mod examples;
+mod routes;
 mod show;
 
-use route::Hop;
 use route::Length;
-use route::Port;
 use route::Prefix;
-use route::Route;
+use routes::direct;
 use show::Words;
 
-fn ten() -> Prefix {
-    Prefix::new(0x0A000000, Length(8))
+// 10.0.0.0.
+const TEN: u32 = 0x0A000000;
+
+// The three calls in plain numbers: a long run of them is proved faster than one that makes each route itself.
+fn add(words: &mut Words, address: u32, length: u32, port: u32) {
+    show::add(words, direct(Prefix::new(address, Length(length)), port));
 }
 
-// Another length of the same address.
-fn ten_long() -> Prefix {
-    Prefix::new(0x0A000000, Length(16))
+fn delete(words: &mut Words, address: u32, length: u32) {
+    show::delete(words, Prefix::new(address, Length(length)));
 }
 
-fn out(prefix: Prefix, port: u32) -> Route {
-    Route {
-        prefix,
-        hop: Hop::Direct(Port(port)),
-    }
+fn change_hop(words: &mut Words, address: u32, length: u32, port: u32) {
+    show::change_hop(words, direct(Prefix::new(address, Length(length)), port));
 }
 
 fn lookups(words: &Words) {
@@ -30,34 +30,36 @@ fn lookups(words: &Words) {
     show::lookup(words, 0x0A010001);
     show::lookup(words, 0x0B000001);
     show::state(words);
+    show::past(words);
 }
 
+// A buffer that is a word too short for its capacity is refused.
 fn begin(words: &mut Words) {
     show::text(b"== a fresh table\n");
-    show::add(words, out(ten(), 3));
+    add(words, TEN, 8, 3);
     show::fresh(words, 0);
     show::fresh(words, 97);
-    show::fresh(words, 3);
+    show::fresh(&mut [0u32; 1067], 3);
     show::fresh(words, 2);
     lookups(words);
 }
 
 fn fill(words: &mut Words) {
     show::text(b"== a full table\n");
-    show::add(words, out(Prefix::new(0x0A000001, Length(8)), 3));
-    show::add(words, out(Prefix::new(0x0A000000, Length(33)), 16));
-    show::add(words, out(ten(), 16));
-    show::add(words, out(ten(), 3));
-    show::add(words, out(ten(), 4));
-    show::add(words, out(ten_long(), 5));
+    add(words, 0x0A000001, 8, 3);
+    add(words, TEN, 33, 16);
+    add(words, TEN, 8, 16);
+    add(words, TEN, 8, 3);
+    add(words, TEN, 8, 4);
+    add(words, TEN, 16, 5);
     lookups(words);
-    show::add(words, out(ten_long(), 5));
-    show::add(words, out(Prefix::host(1), 6));
-    show::delete(words, Prefix::host(1));
-    show::change_hop(words, out(Prefix::host(1), 6));
-    show::change_hop(words, out(ten(), 7));
-    show::delete(words, ten_long());
-    show::delete(words, ten_long());
+    add(words, TEN, 16, 5);
+    add(words, 1, 32, 6);
+    delete(words, 1, 32);
+    change_hop(words, 1, 32, 6);
+    change_hop(words, TEN, 8, 7);
+    delete(words, TEN, 16);
+    delete(words, TEN, 16);
     lookups(words);
 }
 
@@ -69,17 +71,17 @@ fn try_out(words: &mut Words) {
     show::open(words);
     show::open(words);
     show::step_back(words);
-    show::delete(words, ten());
-    show::add(words, out(Prefix::DEFAULT, 1));
-    show::add(words, out(Prefix::host(0x0B000001), 2));
-    show::change_hop(words, out(Prefix::DEFAULT, 9));
+    delete(words, TEN, 8);
+    add(words, 0, 0, 1);
+    add(words, 0x0B000001, 32, 2);
+    change_hop(words, 0, 0, 9);
     lookups(words);
     show::step_back(words);
     lookups(words);
     show::step_back(words);
     show::step_back(words);
     lookups(words);
-    show::add(words, out(ten(), 8));
+    add(words, TEN, 8, 8);
     show::back_out(words);
     lookups(words);
     show::step_back(words);
@@ -87,19 +89,19 @@ fn try_out(words: &mut Words) {
 
 // Eight changes that lead back to where they began.
 fn eight(words: &mut Words) {
-    show::delete(words, ten());
-    show::add(words, out(ten(), 1));
-    show::change_hop(words, out(ten(), 2));
-    show::change_hop(words, out(ten(), 3));
-    show::change_hop(words, out(ten(), 4));
-    show::change_hop(words, out(ten(), 5));
-    show::change_hop(words, out(ten(), 6));
-    show::change_hop(words, out(ten(), 7));
+    delete(words, TEN, 8);
+    add(words, TEN, 8, 1);
+    change_hop(words, TEN, 8, 2);
+    change_hop(words, TEN, 8, 3);
+    change_hop(words, TEN, 8, 4);
+    change_hop(words, TEN, 8, 5);
+    change_hop(words, TEN, 8, 6);
+    change_hop(words, TEN, 8, 7);
 }
 
 fn record_full(words: &mut Words) {
     show::text(b"== 64 changes\n");
-    show::add(words, out(ten_long(), 5));
+    add(words, TEN, 16, 5);
     show::open(words);
     eight(words);
     eight(words);
@@ -109,24 +111,25 @@ fn record_full(words: &mut Words) {
     eight(words);
     eight(words);
     eight(words);
-    show::change_hop(words, out(ten(), 8));
-    show::add(words, out(Prefix::host(1), 8));
-    show::add(words, out(ten(), 8));
+    change_hop(words, TEN, 8, 8);
+    add(words, 1, 32, 8);
+    add(words, TEN, 8, 8);
     show::step_back(words);
-    show::change_hop(words, out(ten(), 9));
-    show::delete(words, ten());
+    change_hop(words, TEN, 8, 9);
+    delete(words, TEN, 8);
     lookups(words);
     show::back_out(words);
     lookups(words);
     show::open(words);
-    show::delete(words, ten());
+    delete(words, TEN, 8);
     show::keep(words);
     show::back_out(words);
     lookups(words);
 }
 
+// The three words past a pool of capacity 2 hold something, and must hold it while one is used.
 fn main() {
-    let mut words = [0u32; 1059];
+    let mut words = [0u32; 2187];
     words[1056] = 7;
     words[1057] = 8;
     words[1058] = 9;
@@ -134,4 +137,7 @@ fn main() {
     fill(&mut words);
     try_out(&mut words);
     record_full(&mut words);
+    examples::limits(&mut words);
+    examples::bsdi(&mut words);
+    examples::largest(&mut words);
 }

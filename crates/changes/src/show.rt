@@ -1,15 +1,18 @@
 // Calls that change a table, asked and answered as text.
-use route::Done;
+ghost use Rattle.model.specs.Call as call;
+ghost use Rattle.route.specs.Means.{prefixOf, routeOf};
+ghost use Rattle.changes.specs.Becomes.{Becomes};
+ghost use lib.ListN.{length};
 use route::Found;
 use route::Hop;
 use route::Prefix;
 use route::Room;
 use route::Route;
 
-// The words of a pool of capacity 2, and three that are not the pool's.
-pub type Words = [u32; 1059];
+// The words of a pool of the largest capacity, 96, and three that are not the pool's.
+pub(crate) type Words = [u32; 2187];
 
-pub fn text(bytes: &[u8]) {
+pub(crate) fn text(bytes: &[u8]) {
     io::write_all(1, bytes);
 }
 
@@ -17,14 +20,18 @@ fn number(n: u32) {
     io::print_decimal(1, n as u64);
 }
 
+fn address(a: u32) {
+    number(a >> 24);
+    text(b".");
+    number((a >> 16) & 255);
+    text(b".");
+    number((a >> 8) & 255);
+    text(b".");
+    number(a & 255);
+}
+
 fn prefix(p: Prefix) {
-    number(p.address >> 24);
-    text(b".");
-    number((p.address >> 16) & 255);
-    text(b".");
-    number((p.address >> 8) & 255);
-    text(b".");
-    number(p.address & 255);
+    address(p.address);
     text(b"/");
     number(p.length.0);
 }
@@ -39,94 +46,100 @@ fn hop(h: Hop) {
             text(b" via ");
             number(port.0);
             text(b" ");
-            number(gateway);
+            address(gateway);
         }
         Hop::Reject => text(b" reject"),
     }
 }
 
-// The number of an answer.
-fn done(d: Done) {
-    match d {
-        Done::Yes => number(0),
-        Done::Refused(r) => number(r.number()),
-    }
+fn route(r: Route) {
+    let end = r.hop;
+    prefix(r.prefix);
+    hop(end);
+}
+
+fn line_of(n: u32) {
+    text(b": ");
+    number(n);
     text(b"\n");
 }
 
-pub fn fresh(words: &mut Words, capacity: u32) {
+pub(crate) fn fresh(words: &mut [u32], capacity: u32)
+    ensures { λ _. ⌜ Becomes (call.fresh capacity (length (now (words .entry)))) (now (words .entry)) (now (words .exit)) ⌝ }
+{
     text(b"fresh ");
     number(capacity);
-    text(b": ");
-    done(table::fresh(words, capacity));
+    line_of(table::fresh(words, capacity).number());
 }
 
-pub fn add(words: &mut Words, route: Route) {
-    let end = route.hop;
+pub(crate) fn add(words: &mut Words, new: Route)
+    ensures { λ _. ⌜ Becomes (call.add (routeOf new)) (now (words .entry)) (now (words .exit)) ⌝ }
+{
     text(b"add ");
-    prefix(route.prefix);
-    hop(end);
-    text(b": ");
-    done(table::add(words, route));
+    route(new);
+    line_of(table::add(words, new).number());
 }
 
-pub fn delete(words: &mut Words, gone: Prefix) {
+pub(crate) fn delete(words: &mut Words, gone: Prefix)
+    ensures { λ _. ⌜ Becomes (call.delete (prefixOf gone)) (now (words .entry)) (now (words .exit)) ⌝ }
+{
     text(b"delete ");
     prefix(gone);
-    text(b": ");
-    done(table::delete(words, gone));
+    line_of(table::delete(words, gone).number());
 }
 
-pub fn change_hop(words: &mut Words, route: Route) {
-    let end = route.hop;
+pub(crate) fn change_hop(words: &mut Words, other: Route)
+    ensures { λ _. ⌜ Becomes (call.change (routeOf other)) (now (words .entry)) (now (words .exit)) ⌝ }
+{
     text(b"change ");
-    prefix(route.prefix);
-    hop(end);
-    text(b": ");
-    done(table::change_hop(words, route));
+    route(other);
+    line_of(table::change_hop(words, other).number());
 }
 
-pub fn open(words: &mut Words) {
-    text(b"open: ");
-    done(table::open_trial(words));
+pub(crate) fn open(words: &mut Words)
+    ensures { λ _. ⌜ Becomes call.openTrial (now (words .entry)) (now (words .exit)) ⌝ }
+{
+    text(b"open");
+    line_of(table::open_trial(words).number());
 }
 
-pub fn keep(words: &mut Words) {
-    text(b"keep: ");
-    done(table::keep_trial(words));
+pub(crate) fn keep(words: &mut Words)
+    ensures { λ _. ⌜ Becomes call.keep (now (words .entry)) (now (words .exit)) ⌝ }
+{
+    text(b"keep");
+    line_of(table::keep_trial(words).number());
 }
 
-pub fn back_out(words: &mut Words) {
-    text(b"back out: ");
-    done(table::back_out(words));
+pub(crate) fn back_out(words: &mut Words)
+    ensures { λ _. ⌜ Becomes call.backOut (now (words .entry)) (now (words .exit)) ⌝ }
+{
+    text(b"back out");
+    line_of(table::back_out(words).number());
 }
 
-pub fn step_back(words: &mut Words) {
-    text(b"step back: ");
-    done(table::step_back(words));
+pub(crate) fn step_back(words: &mut Words)
+    ensures { λ _. ⌜ Becomes call.stepBack (now (words .entry)) (now (words .exit)) ⌝ }
+{
+    text(b"step back");
+    line_of(table::step_back(words).number());
 }
 
-fn found(f: Found) {
-    match f {
-        Found::Route(r) => {
-            let end = r.hop;
-            prefix(r.prefix);
-            hop(end);
-        }
-        Found::Refused(r) => number(r.number()),
-    }
-    text(b"\n");
-}
-
-pub fn lookup(words: &Words, destination: u32) {
+// The route for a destination, or the number of the refusal.
+pub(crate) fn lookup(words: &Words, destination: u32) {
     text(b"lookup ");
     prefix(Prefix::host(destination));
+    let answer = table::lookup(words, destination);
+    let Found::Route(r) = answer else {
+        line_of(answer.number());
+        return;
+    };
     text(b": ");
-    found(table::lookup(words, destination));
+    route(r);
+    text(b"\n");
 }
 
 // What a table is after a call: its room, and whether it is sound.
-pub fn state(words: &Words) {
+pub(crate) fn state(words: &Words) {
     match table::room_left(words) {
         Room::Left(left) => {
             text(b"room ");
@@ -139,6 +152,10 @@ pub fn state(words: &Words) {
     } else {
         text(b", not sound\n");
     }
+}
+
+// Whether the three words past a pool of capacity 2 are what they were at the start.
+pub(crate) fn past(words: &Words) {
     if words[1056] == 7 && words[1057] == 8 && words[1058] == 9 {
         text(b"the words past the pool stand\n");
     }
