@@ -13,17 +13,11 @@ abbrev μ-loop : tie.MeasureT-loop
 loop-holds : tie.Need-loop-holds Inv-loop μ-loop
 loop-holds c = search needs
 
-mul-host : tie.Need-mul-host Inv-loop μ-loop
-mul-host c = search needs
+mul-add : tie.Need-mul-add Inv-loop μ-loop
+mul-add c = search needs
 
-add-host : tie.Need-add-host Inv-loop μ-loop
-add-host c = search needs
-
-host-requires : tie.Need-host-requires Inv-loop μ-loop
-host-requires c κs = search needs
-
-direct-requires : tie.Need-direct-requires Inv-loop μ-loop
-direct-requires c κs = search needs
+add-add : tie.Need-add-add Inv-loop μ-loop
+add-add c = search needs
 
 add-requires : tie.Need-add-requires Inv-loop μ-loop
 add-requires c κs = search needs
@@ -47,10 +41,8 @@ add-hosts-spec =
     Inv-loop
     μ-loop
     loop-holds
-    mul-host
-    add-host
-    host-requires
-    direct-requires
+    mul-add
+    add-add
     add-requires
     add-i
     loop-less
