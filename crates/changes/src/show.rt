@@ -1,8 +1,4 @@
 // Calls that change a table, asked and answered as text.
-ghost use Rattle.model.specs.Call as call;
-ghost use Rattle.route.specs.Means.{prefixOf, routeOf};
-ghost use Rattle.changes.specs.Becomes.{Becomes};
-ghost use lib.ListN.{length};
 use route::Found;
 use route::Hop;
 use route::Prefix;
@@ -64,62 +60,46 @@ fn line_of(n: u32) {
     text(b"\n");
 }
 
-pub(crate) fn fresh(words: &mut [u32], capacity: u32)
-    ensures { λ _. ⌜ Becomes (call.fresh capacity (length (now (words .entry)))) (now (words .entry)) (now (words .exit)) ⌝ }
-{
+pub(crate) fn fresh(words: &mut [u32], capacity: u32) {
     text(b"fresh ");
     number(capacity);
     line_of(table::fresh(words, capacity).number());
 }
 
-pub(crate) fn add(words: &mut Words, new: Route)
-    ensures { λ _. ⌜ Becomes (call.add (routeOf new)) (now (words .entry)) (now (words .exit)) ⌝ }
-{
+pub(crate) fn add(words: &mut Words, new: Route) {
     text(b"add ");
     route(new);
     line_of(table::add(words, new).number());
 }
 
-pub(crate) fn delete(words: &mut Words, gone: Prefix)
-    ensures { λ _. ⌜ Becomes (call.delete (prefixOf gone)) (now (words .entry)) (now (words .exit)) ⌝ }
-{
+pub(crate) fn delete(words: &mut Words, gone: Prefix) {
     text(b"delete ");
     prefix(gone);
     line_of(table::delete(words, gone).number());
 }
 
-pub(crate) fn change_hop(words: &mut Words, other: Route)
-    ensures { λ _. ⌜ Becomes (call.change (routeOf other)) (now (words .entry)) (now (words .exit)) ⌝ }
-{
+pub(crate) fn change_hop(words: &mut Words, other: Route) {
     text(b"change ");
     route(other);
     line_of(table::change_hop(words, other).number());
 }
 
-pub(crate) fn open(words: &mut Words)
-    ensures { λ _. ⌜ Becomes call.openTrial (now (words .entry)) (now (words .exit)) ⌝ }
-{
+pub(crate) fn open(words: &mut Words) {
     text(b"open");
     line_of(table::open_trial(words).number());
 }
 
-pub(crate) fn keep(words: &mut Words)
-    ensures { λ _. ⌜ Becomes call.keep (now (words .entry)) (now (words .exit)) ⌝ }
-{
+pub(crate) fn keep(words: &mut Words) {
     text(b"keep");
     line_of(table::keep_trial(words).number());
 }
 
-pub(crate) fn back_out(words: &mut Words)
-    ensures { λ _. ⌜ Becomes call.backOut (now (words .entry)) (now (words .exit)) ⌝ }
-{
+pub(crate) fn back_out(words: &mut Words) {
     text(b"back out");
     line_of(table::back_out(words).number());
 }
 
-pub(crate) fn step_back(words: &mut Words)
-    ensures { λ _. ⌜ Becomes call.stepBack (now (words .entry)) (now (words .exit)) ⌝ }
-{
+pub(crate) fn step_back(words: &mut Words) {
     text(b"step back");
     line_of(table::step_back(words).number());
 }
