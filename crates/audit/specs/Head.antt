@@ -4,6 +4,7 @@ use mathlib.Core.Path.{_≡_}
 use mathlib.Core.List.{List}
 use Rattle.pool.specs.Layout.{capacityIn, trialIn, standingIn}
 
+-- "Its numbers are in range .. at most 64 changes stand and none without an open trial", of the head's words.
 pub record HeadFine (c : ℕ) (ws : List ℕ) : Type 0 where
   pub atLeastOne : 1 ≤ c
   pub inRange : c ≤ 96

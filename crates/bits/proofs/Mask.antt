@@ -18,7 +18,8 @@ use lib.Count.{onesIn, ones, ones-step, ones-cat, ones-ones, under, trailingZero
 use Rattle.bits.proofs.Cases.{lt-or-le, zero-or-one}
 use Rattle.bits.proofs.First.{Clear, first-below, first-all, clear-whole}
 use Rattle.bits.specs.Address.{first, bit, clear}
-use Rattle.bits.specs.Mask.{maskLength, goodMask, maskOf, Hole}
+use Rattle.bits.specs.Mask.{maskLength, goodMask}
+use Rattle.bits.specs.Hole.{maskOf, Hole}
 
 -- ---- one bit more: the last bit, and what stands before it
 

@@ -1,3 +1,4 @@
 pub mod Address
 pub mod Mask
+pub mod Hole
 pub mod Answer

@@ -3,7 +3,7 @@
 ghost use mathlib.Core.Path.{_≡_};
 ghost use Prim.Native.Nat.{_≤_, _<_};
 ghost use Rattle.bits.specs.Address.{first, bit, clear, Part};
-ghost use Rattle.bits.specs.Mask.{maskOf};
+ghost use Rattle.bits.specs.Hole.{maskOf};
 ghost use Rattle.bits.specs.Answer.{maskAnswer};
 
 // Bit 0 is the highest, so the shift counts down from 31.

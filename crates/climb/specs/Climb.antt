@@ -52,6 +52,7 @@ abbrev pub EdgeInPool : ℕ → Edge → Type 0
 EdgeInPool c (Leaf p) = p .0 < c
 EdgeInPool c Damaged = Unit {0}
 
+-- The place that the left sides lead to from a link: in a good tree, that of its first leaf.
 pub record Leftmost (c : ℕ) (ws : List ℕ) (link : ℕ) (r : Edge) : Type 0 where
   -- the place at the end is in the pool
   pub inPool : EdgeInPool c r

@@ -8,7 +8,8 @@ use native.Mathlib.Omega.{arith}
 use lib.ListN.{length, length-append}
 use Rattle.model.specs.Ipv4.{Hop}
 use Rattle.model.specs.State.{State}
-use Rattle.patricia.specs.Tree.{leaf, node, Root, routes, rootRoutes, leaves, inners}
+use Rattle.patricia.specs.Tree.{leaf, node, Root, routes, rootRoutes}
+use Rattle.patricia.specs.Size.{leaves, inners}
 use Rattle.patricia.proofs.Size.{leaves-inners}
 use Rattle.pool.specs.Layout.{rootIn, leftAt, rightAt}
 use Rattle.pool.specs.Holds.{Seat, Seated, bare, bareRoot, innerPlaces, Holds, HoldsRoot}

@@ -43,6 +43,7 @@ firstDue [] = 0
 firstDue (l ∷ ls) = cond (l .1) (l .0) (firstDue ls)
 
 module _ {P : Type 0} where
+  -- "Pool not sound, or too short for what it says".
   abbrev pub unsound : Meaning P → Bool
   unsound none = true
   unsound (some s) = false
@@ -66,19 +67,12 @@ module _ {P : Type 0} (R : Rules P) where
       ∷ (3, not (wellFormed (R .width) (r .prefix) && R .mayHold (r .prefix)))
       ∷ (4, not (R .goodHop (r .prefix) (r .payload)))
       ∷ (5, holds (r .prefix) (stateOf m .routes)) ∷ (8, trialFull (stateOf m)) ∷ (7, full (stateOf m)) ∷ []
-  due (delete p) m =
-      (9, unsound m)
-      ∷ (3, not (wellFormed (R .width) p))
-      ∷ (6, not (holds p (stateOf m .routes)))
-      ∷ (8, trialFull (stateOf m))
-      ∷ []
+  due (delete p) m = (9, unsound m) ∷ (3, not (wellFormed (R .width) p)) ∷ (6, not (holds p (stateOf m .routes))) ∷ (8, trialFull (stateOf m)) ∷ []
   due (change r) m =
       (9, unsound m)
       ∷ (3, not (wellFormed (R .width) (r .prefix)))
       ∷ (4, not (R .goodHop (r .prefix) (r .payload)))
-      ∷ (6, not (holds (r .prefix) (stateOf m .routes)))
-      ∷ (8, trialFull (stateOf m))
-      ∷ []
+      ∷ (6, not (holds (r .prefix) (stateOf m .routes))) ∷ (8, trialFull (stateOf m)) ∷ []
   due (lookup d) m = (9, unsound m) ∷ (13, not (present (best (R .width) d (stateOf m .routes)))) ∷ []
   due first m = (9, unsound m) ∷ (14, not (present (firstOf (stateOf m .routes)))) ∷ []
   due (after p) m = (9, unsound m) ∷ (3, not (wellFormed (R .width) p)) ∷ (14, not (present (nextAfter p (stateOf m .routes)))) ∷ []
@@ -87,20 +81,18 @@ module _ {P : Type 0} (R : Rules P) where
   due openTrial m = (9, unsound m) ∷ (10, isOpen (stateOf m .trial)) ∷ []
   due keep m = (9, unsound m) ∷ (11, not (isOpen (stateOf m .trial))) ∷ []
   due backOut m = (9, unsound m) ∷ (11, not (isOpen (stateOf m .trial))) ∷ []
-  due stepBack m =
-      (9, unsound m)
-      ∷ (11, not (isOpen (stateOf m .trial)))
-      ∷ (12, eqb (length (changes (stateOf m .trial))) 0)
-      ∷ []
+  due stepBack m = (9, unsound m) ∷ (11, not (isOpen (stateOf m .trial))) ∷ (12, eqb (length (changes (stateOf m .trial))) 0) ∷ []
 
   -- The number that a call answers.
   abbrev pub number : Call P → Meaning P → ℕ
   number c m = firstDue (due c m)
 
+  -- A call is accepted where its number is 0.
   abbrev pub accepted : Call P → Meaning P → Bool
   accepted c m = eqb (number c m) 0
 
 module _ {P : Type 0} where
+  -- The route found, if there is one.
   abbrev pub found : Option (Route P) → Value P
   found none = nothing
   found (some r) = route r
@@ -125,14 +117,17 @@ module _ {P : Type 0} where
   abbrev pub changeTo : State P → List (Route P) → Change P → State P
   changeTo s l c = record { capacity = s .capacity; routes = l; trial = recordIn (s .trial) c }
 
+  -- "Delete": the route that had the prefix goes, and the record keeps it whole.
   abbrev pub deleteFrom : Prefix → State P → Option (Route P) → State P
   deleteFrom p s none = s
   deleteFrom p s (some r) = changeTo s (remove p (s .routes)) (deleted r)
 
+  -- "Change hop needs the prefix there": the record keeps the payload before and after.
   abbrev pub changeAt : Route P → State P → Option (Route P) → State P
   changeAt r s none = s
   changeAt r s (some old) = changeTo s (replace r (s .routes)) (changed (r .prefix) (old .payload) (r .payload))
 
+  -- The table with other routes and another trial; the capacity stays.
   abbrev pub withTrial : State P → List (Route P) → Trial P → State P
   withTrial s l t = record { capacity = s .capacity; routes = l; trial = t }
 
@@ -142,6 +137,7 @@ module _ {P : Type 0} where
   steppedBack s (opened []) = s
   steppedBack s (opened (c ∷ cs)) = withTrial s (undo c (s .routes)) (opened cs)
 
+  -- Done to the state, where there is one.
   abbrev pub onState : (State P → State P) → Meaning P → Meaning P
   onState f none = none
   onState f (some s) = some (f s)

@@ -11,6 +11,7 @@ use Rattle.model.specs.Ipv4.{Hop, direct, via, reject, ipv4}
 abbrev pub ip : ℕ → ℕ → ℕ → ℕ → ℕ
 ip a b c d = ((a * 256 + b) * 256 + c) * 256 + d
 
+-- A route to the prefix a/n.
 abbrev to : ℕ → ℕ → Hop → Route Hop
 to a n h = record { prefix = record { address = a; length = n }; payload = h }
 
@@ -18,33 +19,43 @@ to a n h = record { prefix = record { address = a; length = n }; payload = h }
 abbrev pub A : Route Hop
 A = to (ip 0 0 0 0) 0 (via 0 (ip 140 252 13 33))
 
+-- 127.0.0.0/8 reject
 abbrev pub B : Route Hop
 B = to (ip 127 0 0 0) 8 reject
 
+-- 127.0.0.1/32 direct 2
 abbrev pub C : Route Hop
 C = to (ip 127 0 0 1) 32 (direct 2)
 
+-- 128.32.33.5/32 via 0 140.252.13.33
 abbrev pub D : Route Hop
 D = to (ip 128 32 33 5) 32 (via 0 (ip 140 252 13 33))
 
+-- 140.252.13.32/27 direct 0
 abbrev pub E : Route Hop
 E = to (ip 140 252 13 32) 27 (direct 0)
 
+-- 140.252.13.33/32 direct 0
 abbrev pub F : Route Hop
 F = to (ip 140 252 13 33) 32 (direct 0)
 
+-- 140.252.13.34/32 direct 0
 abbrev pub G : Route Hop
 G = to (ip 140 252 13 34) 32 (direct 0)
 
+-- 140.252.13.35/32 direct 2
 abbrev pub H : Route Hop
 H = to (ip 140 252 13 35) 32 (direct 2)
 
+-- 140.252.13.65/32 direct 1
 abbrev pub I : Route Hop
 I = to (ip 140 252 13 65) 32 (direct 1)
 
+-- 224.0.0.0/8 direct 0
 abbrev pub J : Route Hop
 J = to (ip 224 0 0 0) 8 (direct 0)
 
+-- 224.0.0.1/32 direct 0
 abbrev pub K : Route Hop
 K = to (ip 224 0 0 1) 32 (direct 0)
 
@@ -62,12 +73,15 @@ pub record Example : Type 0 where
   pub call : Call Hop
   pub wanted : ℕ × Value Hop
 
+-- A lookup of d gives r.
 abbrev gives : List (Route Hop) → ℕ → Route Hop → Example
 gives l d r = record { routes = l; call = lookup d; wanted = (0, route r) }
 
+-- A call is refused with n.
 abbrev refuses : List (Route Hop) → Call Hop → ℕ → Example
 refuses l c n = record { routes = l; call = c; wanted = (n, nothing) }
 
+-- The starred lines, in their order.
 abbrev pub examples : List Example
 examples =
     gives bsdi (ip 127 0 0 1) C

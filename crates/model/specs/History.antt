@@ -65,6 +65,7 @@ module _ {P : Type 0} where
   act (drop p) l = remove p l
   act (swap r) l = replace r l
 
+  -- All of them, the oldest first.
   abbrev pub replay : List (Deed P) → List (Route P)
   replay [] = []
   replay (d ∷ ds) = act d (replay ds)

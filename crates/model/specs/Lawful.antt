@@ -13,6 +13,7 @@ module _ {P : Type 0} (R : Rules P) where
   abbrev pub Obeys : Prefix → P → Type 0
   Obeys p h = (wellFormed (R .width) p ≡ true) × (R .mayHold p ≡ true) × (R .goodHop p h ≡ true)
 
+  -- "Its routes .. obey".
   abbrev pub AllObey : List (Route P) → Type 0
   AllObey [] = Unit {0}
   AllObey (r ∷ rs) = Obeys (r .prefix) (r .payload) × AllObey rs
@@ -23,6 +24,7 @@ module _ {P : Type 0} (R : Rules P) where
   ChangeObeys (deleted r) = Obeys (r .prefix) (r .payload)
   ChangeObeys (changed p old new) = Obeys p old × Obeys p new
 
+  -- Every recorded change does.
   abbrev pub AllChangesObey : List (Change P) → Type 0
   AllChangesObey [] = Unit {0}
   AllChangesObey (c ∷ cs) = ChangeObeys c × AllChangesObey cs

@@ -24,6 +24,7 @@ module _ {P : Type 0} where
   longer r none = some r
   longer r (some q) = cond (ltb (r .prefix .length) (q .prefix .length)) (some q) (some r)
 
+  -- Over all routes.
   abbrev pub best : ℕ → ℕ → List (Route P) → Option (Route P)
   best W d [] = none
   best W d (x ∷ xs) = cond (matches W (x .prefix) d) (longer x (best W d xs)) (best W d xs)

@@ -38,6 +38,7 @@ module _ {P : Type 0} where
   present none = false
   present (some r) = true
 
+  -- Whether a route has this prefix.
   abbrev pub holds : Prefix → List (Route P) → Bool
   holds p l = present (find p l)
 
@@ -61,6 +62,7 @@ module _ {P : Type 0} where
   firstOf [] = none
   firstOf (x ∷ xs) = some x
 
+  -- The first of the routes that come after p.
   abbrev pub nextAfter : Prefix → List (Route P) → Option (Route P)
   nextAfter p [] = none
   nextAfter p (x ∷ xs) = cond (before p (x .prefix)) (some x) (nextAfter p xs)

@@ -29,6 +29,7 @@ pub data Trial (P : Type 0) : Type 0 where
   closed : Trial P
   opened : List (Change P) → Trial P
 
+-- A table: "capacity, routes, whether a trial is open, standing changes".
 pub record State (P : Type 0) : Type 0 where
   pub capacity : ℕ
   pub routes : List (Route P)
@@ -51,10 +52,12 @@ module _ {P : Type 0} where
   abbrev pub full : State P → Bool
   full s = eqb (length (s .routes)) (s .capacity)
 
+  -- "Whether a trial is open".
   abbrev pub isOpen : Trial P → Bool
   isOpen closed = false
   isOpen (opened cs) = true
 
+  -- The "standing changes".
   abbrev pub changes : Trial P → List (Change P)
   changes closed = []
   changes (opened cs) = cs

@@ -4,7 +4,8 @@ use mathlib.Core.Path.{_≡_, refl}
 use mathlib.Core.Logic.{⊎-elim}
 use mathlib.Core.Option.{none, some}
 use native.Mathlib.Omega.{arith}
-use Rattle.patricia.specs.Tree.{Tree, leaf, node, Root, leaves, inners}
+use Rattle.patricia.specs.Tree.{Tree, leaf, node, Root}
+use Rattle.patricia.specs.Size.{leaves, inners}
 use Rattle.patricia.specs.Obeys.{Grows}
 use Rattle.patricia.specs.Way.{depth, rootDepth}
 use Rattle.patricia.proofs.Form.{side, Good, RootGood}

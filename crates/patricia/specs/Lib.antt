@@ -1,3 +1,4 @@
 pub mod Tree
 pub mod Obeys
 pub mod Way
+pub mod Size

@@ -15,10 +15,12 @@ module _ {P : Type 0} where
   Shorter n [] = Unit {0}
   Shorter n (e ∷ es) = (e .length < n) × Shorter n es
 
+  -- Each is longer than all behind it.
   abbrev pub LongestFirst : List (Entry P) → Type 0
   LongestFirst [] = Unit {0}
   LongestFirst (e ∷ es) = Shorter (e .length) es × LongestFirst es
 
+  -- Each prefix of the leaf is well formed.
   abbrev pub AllWellFormed : ℕ → ℕ → List (Entry P) → Type 0
   AllWellFormed W a [] = Unit {0}
   AllWellFormed W a (e ∷ es) = (wellFormed W (routeOf a e .prefix) ≡ true) × AllWellFormed W a es
@@ -44,6 +46,7 @@ module _ {N P : Type 0} where
     pub growsLeft : Grows b l
     pub growsRight : Grows b r
 
+  -- Every leaf and every node of the tree does.
   abbrev pub Obeys : ℕ → Tree N P → Type 0
   Obeys W (leaf a es) = LeafObeys W a es
   Obeys W (node n b l r) = NodeObeys W b n l r × Obeys W l × Obeys W r

@@ -1,6 +1,6 @@
 -- The tree as mathematics (document 01, "The pool"): "inner nodes test one bit and have two children"; "distinct addresses have one leaf each, routes
 -- of one address hang together". N names an inner node and P is what a route holds; the pool keeps its places there. "The BSD end leaves are left out."
-use Prim.Native.Nat.{ℕ, suc, _+_}
+use Prim.Native.Nat.{ℕ}
 use mathlib.Core.Path.{_≡_}
 use mathlib.Core.List.{List, [], _∷_, _++_}
 use mathlib.Core.Logic.{_⊎_}
@@ -12,6 +12,7 @@ pub record Entry (P : Type 0) : Type 0 where
   pub length : ℕ
   pub payload : P
 
+-- A leaf with the routes of one address, or an inner node with the bit that it tests.
 pub data Tree (N P : Type 0) : Type 0 where
   leaf : (address : ℕ) → List (Entry P) → Tree N P
   node : (name : N) (bit : ℕ) (left right : Tree N P) → Tree N P
@@ -21,6 +22,7 @@ abbrev pub Root : Type 0 → Type 0 → Type 0
 Root N P = Option (Tree N P)
 
 module _ {P : Type 0} where
+  -- The route that an entry of address a is.
   abbrev pub routeOf : ℕ → Entry P → Route P
   routeOf a e = record { prefix = record { address = a; length = e .length }; payload = e .payload }
 
@@ -35,6 +37,7 @@ module _ {N P : Type 0} where
   routes (leaf a es) = hung a es
   routes (node n b l r) = routes l ++ routes r
 
+  -- The routes of a table's tree.
   abbrev pub rootRoutes : Root N P → List (Route P)
   rootRoutes none = []
   rootRoutes (some t) = routes t
@@ -43,11 +46,3 @@ module _ {N P : Type 0} where
   abbrev pub Under : ℕ → Tree N P → Type 0
   Under x (leaf a es) = x ≡ a
   Under x (node n b l r) = Under x l ⊎ Under x r
-
-  abbrev pub leaves : Tree N P → ℕ
-  leaves (leaf a es) = 1
-  leaves (node n b l r) = leaves l + leaves r
-
-  abbrev pub inners : Tree N P → ℕ
-  inners (leaf a es) = 0
-  inners (node n b l r) = suc (inners l + inners r)

@@ -16,6 +16,7 @@ module _ {N P : Type 0} where
   depth W d (leaf a es) = 0
   depth W d (node n b l r) = suc (toward (bit W b d) (depth W d l) (depth W d r))
 
+  -- The same for a table's tree; none has no inner node.
   abbrev pub rootDepth : ℕ → ℕ → Root N P → ℕ
   rootDepth W d none = 0
   rootDepth W d (some t) = depth W d t

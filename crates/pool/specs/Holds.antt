@@ -17,17 +17,21 @@ pub record Seat : Type 0 where
 abbrev pub Seated : Type 0
 Seated = Tree ℕ Seat
 
+-- A route without its place.
 abbrev pub bareEntry : Entry Seat → Entry Hop
 bareEntry e = record { length = e .length; payload = e .payload .hop }
 
+-- The routes of a leaf without theirs.
 abbrev pub bareEntries : List (Entry Seat) → List (Entry Hop)
 bareEntries [] = []
 bareEntries (e ∷ es) = bareEntry e ∷ bareEntries es
 
+-- A tree without its routes' places.
 abbrev pub bare : Seated → Tree ℕ Hop
 bare (leaf a es) = leaf a (bareEntries es)
 bare (node j b l r) = node j b (bare l) (bare r)
 
+-- And a table's tree.
 abbrev pub bareRoot : Root ℕ Seat → Root ℕ Hop
 bareRoot none = none
 bareRoot (some t) = some (bare t)
@@ -37,10 +41,12 @@ abbrev pub chainPlaces : List (Entry Seat) → List ℕ
 chainPlaces [] = []
 chainPlaces (e ∷ es) = e .payload .place ∷ chainPlaces es
 
+-- The places of its routes.
 abbrev pub routePlaces : Seated → List ℕ
 routePlaces (leaf a es) = chainPlaces es
 routePlaces (node j b l r) = routePlaces l ++ routePlaces r
 
+-- The places of its inner nodes.
 abbrev pub innerPlaces : Seated → List ℕ
 innerPlaces (leaf a es) = []
 innerPlaces (node j b l r) = j ∷ (innerPlaces l ++ innerPlaces r)

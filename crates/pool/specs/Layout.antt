@@ -19,29 +19,35 @@ size c = 1032 + 12 * c
 abbrev pub rules : Rules Hop
 rules = ipv4 size
 
--- Where a place begins.
+-- Where route place i begins.
 abbrev pub seat : ℕ → ℕ
 seat i = 8 + 8 * i
 
+-- Where inner place j begins, behind the route places.
 abbrev pub joint : ℕ → ℕ → ℕ
 joint c j = 8 + 8 * c + 4 * j
 
+-- Where change k begins, behind the inner places.
 abbrev pub slot : ℕ → ℕ → ℕ
 slot c k = 8 + 12 * c + 16 * k
 
--- The head: capacity; routes held; root link; whether a trial is open; changes standing.
+-- The head begins with the capacity.
 abbrev pub capacityIn : List ℕ → ℕ
 capacityIn ws = word ws 0
 
+-- Routes held.
 abbrev pub countIn : List ℕ → ℕ
 countIn ws = word ws 1
 
+-- The link to the tree.
 abbrev pub rootIn : List ℕ → ℕ
 rootIn ws = word ws 2
 
+-- 1 while a trial is open, else 0.
 abbrev pub trialIn : List ℕ → ℕ
 trialIn ws = word ws 3
 
+-- How many changes stand.
 abbrev pub standingIn : List ℕ → ℕ
 standingIn ws = word ws 4
 
@@ -52,6 +58,7 @@ hopFrom (suc zero) p g = direct p
 hopFrom (suc (suc zero)) p g = via p g
 hopFrom (suc (suc (suc k))) p g = reject
 
+-- The hop whose three words begin here.
 abbrev pub hopAt : List ℕ → ℕ → Hop
 hopAt ws at = hopFrom (word ws at) (word ws (at + 1)) (word ws (at + 2))
 
@@ -63,9 +70,11 @@ prefixAt ws at = record { address = word ws at; length = word ws (at + 1) }
 abbrev pub kindAt : List ℕ → ℕ → ℕ
 kindAt ws i = word ws (seat i)
 
+-- The route in place i.
 abbrev pub routeAt : List ℕ → ℕ → Route Hop
 routeAt ws i = record { prefix = prefixAt ws (seat i + 3); payload = hopAt ws (seat i) }
 
+-- The link to the next route of its address.
 abbrev pub nextAt : List ℕ → ℕ → ℕ
 nextAt ws i = word ws (seat i + 5)
 
@@ -73,9 +82,11 @@ nextAt ws i = word ws (seat i + 5)
 abbrev pub markAt : ℕ → List ℕ → ℕ → ℕ
 markAt c ws j = word ws (joint c j)
 
+-- The link to its left side.
 abbrev pub leftAt : ℕ → List ℕ → ℕ → ℕ
 leftAt c ws j = word ws (joint c j + 1)
 
+-- The link to its right side.
 abbrev pub rightAt : ℕ → List ℕ → ℕ → ℕ
 rightAt c ws j = word ws (joint c j + 2)
 

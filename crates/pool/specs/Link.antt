@@ -5,9 +5,11 @@ use lib.Dec.{eqb}
 use Rattle.pool.specs.declared.link.Link.{Link}
 use Rattle.pool.specs.declared.link.Link.the-variants.{Nothing, Route, Inner}
 
+-- The link to route place i.
 abbrev pub toRoute : ℕ → ℕ
 toRoute i = 2 * i + 1
 
+-- The link to inner place j.
 abbrev pub toInner : ℕ → ℕ
 toInner j = 2 * j + 2
 

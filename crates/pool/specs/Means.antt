@@ -44,10 +44,12 @@ abbrev pub Among : ℕ → List ℕ → Type 0
 Among i [] = ⊥
 Among i (x ∷ xs) = (i ≡ x) ⊎ Among i xs
 
+-- The route places that a table's tree uses.
 abbrev pub routesUsed : Root ℕ Seat → List ℕ
 routesUsed none = []
 routesUsed (some t) = routePlaces t
 
+-- The inner places that it uses.
 abbrev pub innersUsed : Root ℕ Seat → List ℕ
 innersUsed none = []
 innersUsed (some t) = innerPlaces t

@@ -10,6 +10,7 @@ use Rattle.model.specs.Examples.{ip, B, J, K}
 abbrev pub by : ℕ → Route Hop → Route Hop
 by n r = record { prefix = r .prefix; payload = direct n }
 
+-- The calls of the run in a buffer of n words.
 abbrev pub transcript : ℕ → List (Call Hop × ℕ)
 transcript n =
     (backOut, 0)

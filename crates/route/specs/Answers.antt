@@ -32,26 +32,32 @@ abbrev pub foundNumber : found.Found → ℕ
 foundNumber (found.Found.Route r) = 0
 foundNumber (found.Found.Refused x) = refusalNumber x
 
+-- The value of a lookup or a step of the walk.
 abbrev pub foundValue : found.Found → Value ModelHop
 foundValue (found.Found.Route r) = route (routeOf r)
 foundValue (found.Found.Refused x) = nothing
 
+-- The number of room left.
 abbrev pub roomNumber : room.Room → ℕ
 roomNumber (room.Room.Left n) = 0
 roomNumber (room.Room.Refused x) = refusalNumber x
 
+-- Its value.
 abbrev pub roomValue : room.Room → Value ModelHop
 roomValue (room.Room.Left n) = count n
 roomValue (room.Room.Refused x) = nothing
 
+-- The number of mask to length.
 abbrev pub measuredNumber : measured.Measured → ℕ
 measuredNumber (measured.Measured.Length n) = 0
 measuredNumber (measured.Measured.Refused x) = refusalNumber x
 
+-- Its value.
 abbrev pub measuredValue : measured.Measured → Value ModelHop
 measuredValue (measured.Measured.Length n) = count (n .0)
 measuredValue (measured.Measured.Refused x) = nothing
 
+-- The number of a change or a trial's call.
 abbrev pub doneNumber : done.Done → ℕ
 doneNumber done.Done.Yes = 0
 doneNumber (done.Done.Refused x) = refusalNumber x

@@ -5,5 +5,6 @@ use mathlib.Core.List.{List}
 use lib.ListN.{length}
 use Rattle.pool.specs.Layout.{size}
 
+-- Just as many words as a pool of that capacity has; the bound keeps every index in the machine's range.
 abbrev pub Fit : ℕ → List ℕ → Type 0
 Fit c ws = (c ≤ 65535) × (length ws ≡ size c)

@@ -12,9 +12,11 @@ use Rattle.pool.specs.Holds.{Seat, bareEntries, Chain}
 use Rattle.shape.specs.declared.chain.Hung.{Hung}
 use Rattle.shape.specs.declared.chain.ChainAudit.{ChainAudit}
 
+-- The address in route place i.
 abbrev pub addressAt : List ℕ → ℕ → ℕ
 addressAt ws i = prefixAt ws (seat i + 3) .address
 
+-- The length in route place i.
 abbrev pub lengthAt : List ℕ → ℕ → ℕ
 lengthAt ws i = prefixAt ws (seat i + 3) .length
 
@@ -32,6 +34,7 @@ pub record HungFine (c : ℕ) (ws : List ℕ) (link a bound i : ℕ) : Type 0 wh
   pub address : addressAt ws i ≡ a
   pub shorter : lengthAt ws i < bound
 
+-- What is answered of one link of a leaf.
 abbrev pub HungSays : ℕ → List ℕ → ℕ → ℕ → ℕ → Hung → Type 0
 HungSays c ws link a bound Hung.Bad = (i : ℕ) → HungFine c ws link a bound i → ⊥
 HungSays c ws link a bound (Hung.Next l n) = (i : ℕ) × HungFine c ws link a bound i × (l ≡ nextAt ws i) × (n ≡ lengthAt ws i)
@@ -42,6 +45,7 @@ pub record LeafFine (c : ℕ) (ws : List ℕ) (link a : ℕ) (es : List (Entry S
   pub form : LeafObeys 32 a (bareEntries es)
   pub obey : AllObey rules (hung a (bareEntries es))
 
+-- What is answered of the routes of a leaf.
 abbrev pub ChainSays : ℕ → List ℕ → ℕ → ChainAudit → Type 0
 ChainSays c ws i ChainAudit.Bad = (a : ℕ) (es : List (Entry Seat)) → LeafFine c ws (toRoute i) a es → ⊥
 ChainSays c ws i (ChainAudit.Fine a n) = (n ≤ 33) × ((es : List (Entry Seat)) × LeafFine c ws (toRoute i) a es × (n ≡ length es))

@@ -10,8 +10,10 @@ abbrev pub tally : (ℕ → Bool) → ℕ → ℕ
 tally f zero = 0
 tally f (suc n) = cond (f n) (suc (tally f n)) (tally f n)
 
+-- Route place i is marked as used.
 abbrev pub routeUsed : List ℕ → ℕ → Bool
 routeUsed ws i = not (eqb (kindAt ws i) 0)
 
+-- Inner place j is marked as used.
 abbrev pub innerUsed : ℕ → List ℕ → ℕ → Bool
 innerUsed c ws j = not (eqb (markAt c ws j) 0)

@@ -36,6 +36,7 @@ pub record Counted (low routes inners : ℕ) (t : Seated) : Type 0 where
   pub fewRoutes : routes ≤ 2 ^ (38 - low)
   pub fewInners : inners < 2 ^ (38 - low)
 
+-- What is answered of the tree at a link.
 abbrev pub TreeSays : ℕ → List ℕ → ℕ → ℕ → TreeAudit → Type 0
 TreeSays c ws link low TreeAudit.Bad = (t : Seated) → TreeFine c ws link low t → ⊥
 TreeSays c ws link low (TreeAudit.Fine s) =
@@ -48,6 +49,7 @@ pub record JoinFine (mark : ℕ) (l r : Span) (v : ℕ) : Type 0 where
   pub rightLeast : first 32 mark (r .least) ≡ 2 * v + 1
   pub rightGreatest : first 32 mark (r .greatest) ≡ 2 * v + 1
 
+-- What is answered of two sides under a node.
 abbrev pub JoinSays : ℕ → Span → Span → TreeAudit → Type 0
 JoinSays mark l r TreeAudit.Bad = (v : ℕ) → JoinFine mark l r v → ⊥
 JoinSays mark l r (TreeAudit.Fine s) =
@@ -60,6 +62,7 @@ pub record RootFine (c : ℕ) (ws : List ℕ) (t : Root ℕ Seat) : Type 0 where
   pub form : RootObeys 32 (bareRoot t)
   pub obey : AllObey rules (rootRoutes (bareRoot t))
 
+-- What is answered of the whole tree.
 abbrev pub RootSays : ℕ → List ℕ → RootAudit → Type 0
 RootSays c ws RootAudit.Bad = (t : Root ℕ Seat) → RootFine c ws t → ⊥
 RootSays c ws (RootAudit.Fine n m) = (t : Root ℕ Seat) × RootFine c ws t × (n ≡ length (routesUsed t)) × (m ≡ length (innersUsed t))

@@ -24,9 +24,11 @@ changeFrom (suc zero) p old new = added (record { prefix = p; payload = new })
 changeFrom (suc (suc zero)) p old new = deleted (record { prefix = p; payload = old })
 changeFrom (suc (suc (suc n))) p old new = changed p old new
 
+-- The prefix that change k is about.
 abbrev pub changedPrefix : ℕ → List ℕ → ℕ → Prefix
 changedPrefix c ws k = prefixAt ws (slot c k + 1)
 
+-- The change that slot k records.
 abbrev pub changeAt : ℕ → List ℕ → ℕ → Change Hop
 changeAt c ws k = changeFrom (actionAt c ws k) (changedPrefix c ws k) (hopAt ws (slot c k + 3)) (hopAt ws (slot c k + 6))
 
@@ -45,6 +47,7 @@ pub record ChangeFine (c : ℕ) (ws : List ℕ) (k : ℕ) : Type 0 where
   pub recorded : Records c ws k (changeAt c ws k)
   pub obeys : ChangeObeys rules (changeAt c ws k)
 
+-- The first n slots do.
 abbrev pub ChangesFine : ℕ → List ℕ → ℕ → Type 0
 ChangesFine c ws n = (k : ℕ) → k < n → ChangeFine c ws k
 

@@ -1,7 +1,7 @@
 -- `bits::mask_of` meets its contract.
 use borrow.Author.Needs.{needs}
 use mathlib.Core.Path.{sym, ap}
-use Rattle.bits.specs.Mask.{maskOf}
+use Rattle.bits.specs.Hole.{maskOf}
 use Rattle.bits.proofs.Mask.{mask-shift}
 use Rattle.bits.proofs.mask_of.Statement.{statement}
 use Rattle.bits.proofs.mask_of.Tie as tie
