@@ -4,7 +4,7 @@ use mathlib.Core.Path.{_≡_}
 use mathlib.Core.Bool.{Bool, true, false, cond}
 use mathlib.Core.List.{List, [], _∷_}
 use mathlib.Core.Option.{Option, none, some}
-use Rattle.model.specs.Prefix.{Prefix}
+use Rattle.model.specs.Prefix.{Prefix, same, before}
 use Rattle.model.specs.Routes.{Route, find}
 use Rattle.model.specs.Ipv4.{Hop}
 use Rattle.patricia.specs.Tree.{Entry, hung, routes}
@@ -14,6 +14,8 @@ use Rattle.pool.specs.Layout.{rootIn, routeAt}
 use Rattle.pool.specs.Link.{toRoute}
 use Rattle.pool.specs.Holds.{Seat, Seated, bare, bareEntries, chainPlaces, routePlaces, Chain, Holds}
 use Rattle.pool.specs.Means.{Among}
+use Rattle.search.specs.declared.exact.Wanted.{Wanted}
+use Rattle.search.specs.declared.exact.Wanted.the-variants.{Same, After}
 use Rattle.search.specs.declared.exact.Spot.{Spot}
 use Rattle.search.specs.declared.exact.Spot.the-variants.{At, Absent, Damaged}
 
@@ -41,6 +43,11 @@ SpotInPool c Damaged = Unit {0}
 abbrev pub seek : (Prefix → Bool) → List (Route Hop) → Option (Route Hop)
 seek test [] = none
 seek test (x ∷ xs) = cond (test (x .prefix)) (some x) (seek test xs)
+
+-- The two tests that are asked: the prefix itself, or one that comes after it in walk order.
+abbrev pub asked : Wanted → Prefix → Prefix → Bool
+asked Same p q = same p q
+asked After p q = before p q
 
 -- Its spot among the routes of a leaf that hang from place i.
 pub record SpotIn (c : ℕ) (ws : List ℕ) (i : ℕ) (test : Prefix → Bool) (r : Spot) : Type 0 where

@@ -1,10 +1,9 @@
 ghost use Prim.Native.Nat.{_<_};
 ghost use mathlib.Core.Path.{_≡_};
-ghost use Rattle.model.specs.Prefix.{same};
 ghost use Rattle.route.specs.Means.{prefixOf};
 ghost use Rattle.search.specs.Fit.{Fit};
 ghost use Rattle.search.specs.Chain.{HungRight};
-ghost use Rattle.search.specs.Find.{isAt, SpotIn, Finds};
+ghost use Rattle.search.specs.Find.{isAt, asked, SpotIn, Finds};
 use super::descent::End;
 use super::descent::down;
 use pool::Link;
@@ -62,16 +61,32 @@ impl Spot {
     }
 }
 
-// The place of a prefix among the routes of a leaf.
-fn along(pool: &[u32], capacity: usize, first: Place, prefix: Prefix) -> Spot
+// Which route of a leaf is looked for: the one that has the prefix, or the first that comes after it.
+pub enum Wanted {
+    Same,
+    After,
+}
+
+// Whether a held prefix is the one that is looked for.
+fn passes(wanted: Wanted, prefix: Prefix, held: Prefix) -> bool
+    ensures { λ r. ⌜ r ≡ asked wanted (prefixOf prefix) (prefixOf held) ⌝ }
+{
+    match wanted {
+        Wanted::Same => prefix.is(held),
+        Wanted::After => prefix.comes_before(held),
+    }
+}
+
+// The spot of the first route of a leaf that passes.
+pub fn along(pool: &[u32], capacity: usize, first: Place, prefix: Prefix, wanted: Wanted) -> Spot
     requires { ⌜ Fit capacity (now pool) ⌝ }
     requires { ⌜ first .0 < capacity ⌝ }
-    ensures { λ r. ⌜ SpotIn capacity (now (pool .entry)) (first .0) (same (prefixOf prefix)) r ⌝ }
+    ensures { λ r. ⌜ SpotIn capacity (now (pool .entry)) (first .0) (asked wanted (prefixOf prefix)) r ⌝ }
 {
     let mut place = first;
     loop {
         let held = pool::prefix_at(pool, pool::seat(place) + 3);
-        if prefix.is(held) {
+        if passes(wanted, prefix, held) {
             return Spot::At(place);
         }
         match follow(pool, capacity, place, held.length) {
@@ -96,7 +111,7 @@ pub fn find(pool: &[u32], capacity: usize, prefix: Prefix) -> Spot
     let way = down(pool, capacity, prefix.address);
     let end = way.end;
     match end {
-        End::Leaf(place) => along(pool, capacity, place, prefix),
+        End::Leaf(place) => along(pool, capacity, place, prefix, Wanted::Same),
         End::Empty => Spot::Absent,
         End::Damaged => Spot::Damaged,
     }

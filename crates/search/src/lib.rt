@@ -10,5 +10,7 @@ pub use descent::down;
 pub use descent::see;
 pub use exact::Hung;
 pub use exact::Spot;
+pub use exact::Wanted;
+pub use exact::along;
 pub use exact::find;
 pub use exact::follow;

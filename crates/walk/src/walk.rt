@@ -1,9 +1,7 @@
 ghost use Prim.Native.Nat.{_≤_, _<_};
-ghost use Rattle.model.specs.Prefix.{before};
 ghost use Rattle.route.specs.Means.{prefixOf};
 ghost use Rattle.search.specs.Fit.{Fit};
 ghost use Rattle.search.specs.Down.{AllUsable, Ways, EndsAt};
-ghost use Rattle.search.specs.Find.{SpotIn};
 ghost use Rattle.walk.specs.Walk.{Fronts, Firsts, RightSide, Rejoined, Goes, Nexts};
 use climb::Edge;
 use climb::Rise;
@@ -14,11 +12,11 @@ use route::Found;
 use route::Prefix;
 use route::Refusal;
 use search::End;
-use search::Hung;
 use search::Spot;
+use search::Wanted;
 use search::Way;
+use search::along;
 use search::down;
-use search::follow;
 
 // The first route of what stands at a link.
 fn front(pool: &[u32], capacity: usize, link: u32) -> Found
@@ -62,32 +60,6 @@ fn right_side(
     front(pool, capacity, pool::right_at(pool, capacity, Place(place)))
 }
 
-// The spot of the first route of a leaf that comes after a prefix.
-fn beyond(pool: &[u32], capacity: usize, first: Place, prefix: Prefix) -> Spot
-    requires { ⌜ Fit capacity (now pool) ⌝ }
-    requires { ⌜ first .0 < capacity ⌝ }
-    ensures { λ r. ⌜ SpotIn capacity (now (pool .entry)) (first .0) (before (prefixOf prefix)) r ⌝ }
-{
-    let mut place = first;
-    loop {
-        let held = pool::prefix_at(pool, pool::seat(place) + 3);
-        if prefix.comes_before(held) {
-            return Spot::At(place);
-        }
-        match follow(pool, capacity, place, held.length) {
-            Hung::Route(next) => {
-                place = next;
-            }
-            Hung::End => {
-                return Spot::Absent;
-            }
-            Hung::Damaged => {
-                return Spot::Damaged;
-            }
-        }
-    }
-}
-
 // From the deepest of the levels up: how many are left of those that test a bit before the one at which two addresses part.
 fn rejoin(pool: &[u32], capacity: usize, inner: &[usize; 32], depth: usize, parted: u32) -> usize
     requires { ⌜ Fit capacity (now pool) ⌝ }
@@ -112,7 +84,7 @@ fn within(pool: &[u32], capacity: usize, way: Way, leaf: Place, prefix: Prefix) 
     ensures { λ r. ⌜ Goes capacity (now (pool .entry)) (prefixOf prefix) (leaf .0) 32 r ⌝ }
 {
     let inner = way.inner;
-    match beyond(pool, capacity, leaf, prefix) {
+    match along(pool, capacity, leaf, prefix, Wanted::After) {
         Spot::At(place) => Found::Route(pool::route_at(pool, place)),
         Spot::Absent => right_side(pool, capacity, &inner, way.depth, prefix.address),
         Spot::Damaged => Found::Refused(Refusal::NotSound),

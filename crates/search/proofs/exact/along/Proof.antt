@@ -2,26 +2,27 @@ use Prim.Native.Nat.{ℕ, _+_, _<_}
 use mathlib.Core.Path.{_≡_, sym, ap, subst, _∙_}
 use native.Mathlib.Omega.{arith}
 use borrow.Author.Needs.{needs}
-use Rattle.model.specs.Prefix.{Prefix, same}
+use Rattle.model.specs.Prefix.{Prefix}
 use Rattle.route.specs.Means.{prefixOf}
 use Rattle.pool.specs.Layout.{seat, prefixAt}
 use Rattle.search.specs.Chain.{HungRight}
+use Rattle.search.specs.Find.{asked}
 use Rattle.search.proofs.Spots.{Along, along-start, along-next, along-hit, along-end, along-damaged}
 use Rattle.search.proofs.exact.along.Statement.{statement}
 use Rattle.search.proofs.exact.along.Tie as tie
 
 abbrev Inv-loop : tie.InvT-loop
-Inv-loop pool capacity prefix place₀ place = (place .0 < capacity) × Along capacity pool (same (prefixOf prefix)) (place₀ .0) (place .0)
+Inv-loop pool capacity prefix wanted place₀ place = (place .0 < capacity) × Along capacity pool (asked wanted (prefixOf prefix)) (place₀ .0) (place .0)
 
 abbrev μ-loop : tie.MeasureT-loop
-μ-loop pool capacity prefix place₀ place = prefixAt pool (seat (place .0) + 3) .length
+μ-loop pool capacity prefix wanted place₀ place = prefixAt pool (seat (place .0) + 3) .length
 
 -- the prefix that was read, and the test of it
 held : (c : tie.After-prefix-at Inv-loop μ-loop) → prefixOf (c .prefix-at .result) ≡ prefixAt (c .before .before .before .before .args .pool .now) (seat (c .before .before .loop .place .0) + 3)
 held c = c .prefix-at .ensures ∙ ap (λ (n : ℕ). prefixAt (c .before .before .before .before .args .pool .now) (n + 3)) (c .before .seat .ensures)
 
-tested : (c : tie.After-is Inv-loop μ-loop) → c .is .result ≡ same (prefixOf (c .before .before .before .before .before .args .prefix)) (prefixAt (c .before .before .before .before .before .args .pool .now) (seat (c .before .before .before .loop .place .0) + 3))
-tested c = c .is .ensures ∙ ap (same (prefixOf (c .before .before .before .before .before .args .prefix))) (held (c .before))
+tested : (c : tie.After-passes Inv-loop μ-loop) → c .passes .result ≡ asked (c .before .before .before .before .before .args .wanted) (prefixOf (c .before .before .before .before .before .args .prefix)) (prefixAt (c .before .before .before .before .before .args .pool .now) (seat (c .before .before .before .loop .place .0) + 3))
+tested c = c .passes .ensures ∙ ap (asked (c .before .before .before .before .before .args .wanted) (prefixOf (c .before .before .before .before .before .args .prefix))) (held (c .before))
 
 length-held : (c : tie.After-prefix-at Inv-loop μ-loop) → c .prefix-at .result .length .0 ≡ prefixAt (c .before .before .before .before .args .pool .now) (seat (c .before .before .loop .place .0) + 3) .length
 length-held c = ap (λ (p : Prefix). p .length) (held c)
@@ -38,8 +39,8 @@ add-prefix-at c = search needs
 prefix-at-requires : tie.Need-prefix-at-requires Inv-loop μ-loop
 prefix-at-requires c κs = search needs
 
-is-requires : tie.Need-is-requires Inv-loop μ-loop
-is-requires c κs = search needs
+passes-requires : tie.Need-passes-requires Inv-loop μ-loop
+passes-requires c κs = search needs
 
 returns : tie.Need-returns Inv-loop μ-loop
 returns c = let v = c .before .before .before .before .loop .inv in along-hit _ _ _ _ _ (v .0) (v .1) (sym (tested (c .before)) ∙ c .if1 .taken)
@@ -78,7 +79,7 @@ along-spec =
     seat-requires
     add-prefix-at
     prefix-at-requires
-    is-requires
+    passes-requires
     returns
     follow-requires
     enum-known-next
