@@ -1,4 +1,1 @@
-pub mod Answers
-pub mod Founds
-pub mod Began
 pub mod Changes

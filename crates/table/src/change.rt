@@ -91,7 +91,7 @@ pub fn back_out(pool: &mut [u32]) -> Done
     match may_end(pool) {
         May::Go(capacity) => {
             let own = pool::size_of(capacity);
-            apply::back_out(&mut pool[..own], capacity);
+            undo::back_out(&mut pool[..own], capacity);
             Done::Yes
         }
         May::No(refusal) => Done::Refused(refusal),
@@ -105,7 +105,7 @@ pub fn step_back(pool: &mut [u32]) -> Done
     match may_step_back(pool) {
         May::Go(capacity) => {
             let own = pool::size_of(capacity);
-            apply::step_back(&mut pool[..own], capacity);
+            undo::step_back(&mut pool[..own], capacity);
             Done::Yes
         }
         May::No(refusal) => Done::Refused(refusal),

@@ -1,7 +1,5 @@
 // The public calls: each tests, then reads or changes the pool. None asks anything of its caller.
-mod begin;
 mod change;
-mod read;
 
 pub use begin::fresh;
 pub use change::add;

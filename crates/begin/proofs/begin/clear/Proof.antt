@@ -8,8 +8,8 @@ use native.Mathlib.Omega.{arith}
 use lib.ListN.{length, set, drop, replicate, length-set, drop-of-length-le}
 use borrow.Author.Fill.{fill-none, fill-more}
 use borrow.Author.Needs.{needs}
-use Rattle.table.proofs.begin.clear.Statement.{statement}
-use Rattle.table.proofs.begin.clear.Tie as tie
+use Rattle.begin.proofs.begin.clear.Statement.{statement}
+use Rattle.begin.proofs.begin.clear.Tie as tie
 
 abbrev Inv-loop : tie.InvT-loop
 Inv-loop pool₀ i₀ pool i = (i ≤ length pool₀) × (length pool ≡ length pool₀) × (pool ≡ replicate i 0 ++ drop i pool₀)

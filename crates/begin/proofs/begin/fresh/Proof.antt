@@ -3,10 +3,10 @@ use mathlib.Core.Path.{sym, ap, _∙_}
 use native.Mathlib.Omega.{arith}
 use lib.Seq.{length-take-le}
 use Rattle.pool.specs.Layout.{size}
-use Rattle.table.proofs.Began.{no-capacity, past-limit, short-buffer, begins-cleared}
+use Rattle.begin.proofs.Began.{no-capacity, past-limit, short-buffer, begins-cleared}
 use borrow.Author.Needs.{needs}
-use Rattle.table.proofs.begin.fresh.Statement.{statement}
-use Rattle.table.proofs.begin.fresh.Tie as tie
+use Rattle.begin.proofs.begin.fresh.Statement.{statement}
+use Rattle.begin.proofs.begin.fresh.Tie as tie
 
 returns : tie.Need-returns
 returns c = no-capacity (c .before .before .args .pool .now) (c .before .before .args .capacity) (c .if1 .taken)

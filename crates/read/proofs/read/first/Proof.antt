@@ -4,10 +4,10 @@ use Rattle.model.specs.Call.{first}
 use Rattle.ruling.specs.Own.{TestedRight}
 use Rattle.promise.proofs.Promises.{refuses-unsound}
 use Rattle.ruling.proofs.Lent.{own-fits, sound-own}
-use Rattle.table.proofs.Founds.{first-answer}
+use Rattle.read.proofs.Founds.{first-answer}
 use borrow.Author.Needs.{needs}
-use Rattle.table.proofs.read.first.Statement.{statement}
-use Rattle.table.proofs.read.first.Tie as tie
+use Rattle.read.proofs.read.first.Statement.{statement}
+use Rattle.read.proofs.read.first.Tie as tie
 
 tested-requires : tie.Need-tested-requires
 tested-requires c κs = search needs

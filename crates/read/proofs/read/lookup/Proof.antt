@@ -3,10 +3,10 @@ use mathlib.Core.Logic.{inl, inr}
 use native.Mathlib.Omega.{arith}
 use Rattle.ruling.specs.Own.{OwnRight}
 use Rattle.ruling.proofs.Lent.{own-fits}
-use Rattle.table.proofs.Founds.{lookup-answer}
+use Rattle.read.proofs.Founds.{lookup-answer}
 use borrow.Author.Needs.{needs}
-use Rattle.table.proofs.read.lookup.Statement.{statement}
-use Rattle.table.proofs.read.lookup.Tie as tie
+use Rattle.read.proofs.read.lookup.Statement.{statement}
+use Rattle.read.proofs.read.lookup.Tie as tie
 
 own-words-requires : tie.Need-own-words-requires
 own-words-requires c κs = search needs

@@ -1,7 +1,7 @@
-use Rattle.table.proofs.Answers.{mask-answer}
+use Rattle.read.proofs.Answers.{mask-answer}
 use borrow.Author.Needs.{needs}
-use Rattle.table.proofs.read.mask_length.Statement.{statement}
-use Rattle.table.proofs.read.mask_length.Tie as tie
+use Rattle.read.proofs.read.mask_length.Statement.{statement}
+use Rattle.read.proofs.read.mask_length.Tie as tie
 
 measure-requires : tie.Need-measure-requires
 measure-requires c κs = search needs

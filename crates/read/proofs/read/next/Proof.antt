@@ -6,10 +6,10 @@ use Rattle.route.specs.Means.{prefixOf}
 use Rattle.ruling.specs.Own.{TestedRight}
 use Rattle.promise.proofs.Promises.{refuses-unsound}
 use Rattle.ruling.proofs.Lent.{own-fits, sound-own}
-use Rattle.table.proofs.Founds.{bad-prefix, next-answer}
+use Rattle.read.proofs.Founds.{bad-prefix, next-answer}
 use borrow.Author.Needs.{needs}
-use Rattle.table.proofs.read.next.Statement.{statement}
-use Rattle.table.proofs.read.next.Tie as tie
+use Rattle.read.proofs.read.next.Statement.{statement}
+use Rattle.read.proofs.read.next.Tie as tie
 
 tested-requires : tie.Need-tested-requires
 tested-requires c κs = search needs

@@ -3,10 +3,10 @@ use native.Mathlib.Omega.{arith}
 use Rattle.model.specs.Call.{room}
 use Rattle.ruling.specs.Own.{TestedRight}
 use Rattle.promise.proofs.Promises.{refuses-unsound}
-use Rattle.table.proofs.Answers.{room-answer}
+use Rattle.read.proofs.Answers.{room-answer}
 use borrow.Author.Needs.{needs}
-use Rattle.table.proofs.read.room_left.Statement.{statement}
-use Rattle.table.proofs.read.room_left.Tie as tie
+use Rattle.read.proofs.read.room_left.Statement.{statement}
+use Rattle.read.proofs.read.room_left.Tie as tie
 
 tested-requires : tie.Need-tested-requires
 tested-requires c κs = search needs

@@ -2,8 +2,8 @@ use mathlib.Core.Path.{refl, subst}
 use mathlib.Core.Bool.{false≢true}
 use Rattle.ruling.specs.Own.{TestedRight}
 use borrow.Author.Needs.{needs}
-use Rattle.table.proofs.read.sound.Statement.{statement}
-use Rattle.table.proofs.read.sound.Tie as tie
+use Rattle.read.proofs.read.sound.Statement.{statement}
+use Rattle.read.proofs.read.sound.Tie as tie
 
 tested-requires : tie.Need-tested-requires
 tested-requires c κs = search needs

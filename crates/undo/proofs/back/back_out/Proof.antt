@@ -6,10 +6,10 @@ use Rattle.model.specs.Ipv4.{Hop}
 use Rattle.model.specs.State.{State}
 use Rattle.model.specs.Call.{backOut}
 use Rattle.pool.specs.Layout.{word}
 use Rattle.apply.specs.Does.{Accepts}
-use Rattle.apply.proofs.TakenBack.{Going, going-start, going-accepts, going-step, going-does}
-use Rattle.apply.proofs.back.back_out.Statement.{statement}
-use Rattle.apply.proofs.back.back_out.Tie as tie
+use Rattle.undo.proofs.TakenBack.{Going, going-start, going-accepts, going-step, going-does}
+use Rattle.undo.proofs.back.back_out.Statement.{statement}
+use Rattle.undo.proofs.back.back_out.Tie as tie
 
 abbrev Inv-loop : tie.InvT-loop
 Inv-loop pool₀ capacity pool = (length pool ≡ length pool₀) × ((s : State Hop) → Accepts capacity backOut pool₀ s → Going capacity pool s)

@@ -1,7 +1,7 @@
 use borrow.Author.Needs.{needs}
-use Rattle.apply.proofs.TakenBack.{strike-may, step-does}
-use Rattle.apply.proofs.back.step_back.Statement.{statement}
-use Rattle.apply.proofs.back.step_back.Tie as tie
+use Rattle.undo.proofs.TakenBack.{strike-may, step-does}
+use Rattle.undo.proofs.back.step_back.Statement.{statement}
+use Rattle.undo.proofs.back.step_back.Tie as tie
 
 take-back-requires : tie.Need-take-back-requires
 take-back-requires c κs = search needs

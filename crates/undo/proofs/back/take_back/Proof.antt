@@ -2,9 +2,9 @@ use mathlib.Core.Path.{ap, _∙_}
 use native.Mathlib.Omega.{arith}
 use borrow.Author.Needs.{needs}
 use Rattle.pool.specs.Layout.{slot}
-use Rattle.apply.proofs.TakenBack.{newest, slot-fits, to-take, to-put, add-undone, delete-undone, change-undone}
-use Rattle.apply.proofs.back.take_back.Statement.{statement}
-use Rattle.apply.proofs.back.take_back.Tie as tie
+use Rattle.undo.proofs.TakenBack.{newest, slot-fits, to-take, to-put, add-undone, delete-undone, change-undone}
+use Rattle.undo.proofs.back.take_back.Statement.{statement}
+use Rattle.undo.proofs.back.take_back.Tie as tie
 
 slice-read-standing : tie.Need-slice-read-standing
 slice-read-standing c = search needs
