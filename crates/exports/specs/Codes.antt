@@ -1,0 +1,37 @@
+-- How the C interface says a prefix, a hop and a route in words.
+use Prim.Native.Nat.{ℕ, zero, suc}
+use mathlib.Core.Bool.{cond, _||_}
+use mathlib.Core.List.{List, [], _∷_}
+use lib.Dec.{eqb, ltb}
+use Rattle.model.specs.Prefix.{Prefix}
+use Rattle.model.specs.Routes.{Route}
+use Rattle.model.specs.Ipv4.{Hop, direct, via, reject}
+use Rattle.pool.specs.Layout.{rules, size}
+
+-- How many words a capacity needs, 0 for one that "fresh" refuses with 1.
+abbrev pub wordsFor : ℕ → ℕ
+wordsFor c = cond (eqb c 0 || ltb (rules .limit) c) 0 (size c)
+
+abbrev pub prefixIn : ℕ → ℕ → Prefix
+prefixIn a n = record { address = a; length = n }
+
+-- The hop that a kind, a port and a gateway mean. A kind does not look at what it does not use. A kind above 2 is no hop: it stands as one by a port
+-- that there is not, so that it is due 4 just where any bad hop is.
+abbrev pub hopIn : ℕ → ℕ → ℕ → Hop
+hopIn zero p g = direct p
+hopIn (suc zero) p g = via p g
+hopIn (suc (suc zero)) p g = reject
+hopIn (suc (suc (suc k))) p g = direct 16
+
+abbrev pub routeIn : ℕ → ℕ → ℕ → ℕ → ℕ → Route Hop
+routeIn a n k p g = record { prefix = prefixIn a n; payload = hopIn k p g }
+
+-- The words of a hop: kind, port, gateway. What a kind does not use is 0.
+abbrev pub hopWords : Hop → List ℕ
+hopWords (direct p) = 0 ∷ p ∷ 0 ∷ []
+hopWords (via p g) = 1 ∷ p ∷ g ∷ []
+hopWords reject = 2 ∷ 0 ∷ 0 ∷ []
+
+-- The five words of a route: address, length, kind, port, gateway.
+abbrev pub routeWords : Route Hop → List ℕ
+routeWords r = r .prefix .address ∷ r .prefix .length ∷ hopWords (r .payload)

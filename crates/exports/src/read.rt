@@ -1,0 +1,72 @@
+ghost use Rattle.model.specs.Call as call;
+ghost use Rattle.pool.specs.Means.{Sound};
+ghost use Rattle.promise.specs.Promise.{Promise, LookupPromise};
+ghost use Rattle.exports.specs.Codes.{prefixIn};
+ghost use Rattle.exports.specs.Out.{Out, YesNo, MaskPromise};
+use super::codes::show;
+use route::Length;
+use route::Measured;
+use route::Prefix;
+use route::Room;
+
+// 1 for a sound pool, 0 for any other.
+#[no_mangle]
+pub extern "C" fn rishavand_sound(pool: &[u32]) -> u32
+    ensures { λ r. ⌜ YesNo r (Sound (now (pool .entry))) ⌝ }
+{
+    if table::sound(pool) { 1 } else { 0 }
+}
+
+#[no_mangle]
+pub extern "C" fn rishavand_lookup(pool: &[u32], destination: u32, route: &mut [u32; 5]) -> u32
+    ensures { λ r. ⌜ Out (LookupPromise destination (now (pool .entry))) r (now (route .entry)) (now (route .exit)) ⌝ }
+{
+    let answer = table::lookup(pool, destination);
+    show(answer, route)
+}
+
+#[no_mangle]
+pub extern "C" fn rishavand_first(pool: &[u32], route: &mut [u32; 5]) -> u32
+    ensures { λ r. ⌜ Out (Promise call.first (now (pool .entry)) (now (pool .entry))) r (now (route .entry)) (now (route .exit)) ⌝ }
+{
+    let answer = table::first(pool);
+    show(answer, route)
+}
+
+#[no_mangle]
+pub extern "C" fn rishavand_next(
+    pool: &[u32],
+    address: u32,
+    length: u32,
+    route: &mut [u32; 5],
+) -> u32
+    ensures { λ r. ⌜ Out (Promise (call.after (prefixIn address length)) (now (pool .entry)) (now (pool .entry))) r (now (route .entry)) (now (route .exit)) ⌝ }
+{
+    let prefix = Prefix::new(address, Length(length));
+    let answer = table::next(pool, prefix);
+    show(answer, route)
+}
+
+#[no_mangle]
+pub extern "C" fn rishavand_room(pool: &[u32], room: &mut [u32; 1]) -> u32
+    ensures { λ r. ⌜ Out (Promise call.room (now (pool .entry)) (now (pool .entry))) r (now (room .entry)) (now (room .exit)) ⌝ }
+{
+    let answer = table::room_left(pool);
+    let Room::Left(left) = answer else {
+        return answer.number();
+    };
+    *room = [left];
+    0
+}
+
+#[no_mangle]
+pub extern "C" fn rishavand_mask_length(mask: u32, length: &mut [u32; 1]) -> u32
+    ensures { λ r. ⌜ Out (MaskPromise mask) r (now (length .entry)) (now (length .exit)) ⌝ }
+{
+    let answer = table::mask_length(mask);
+    let Measured::Length(ones) = answer else {
+        return answer.number();
+    };
+    *length = [ones.0];
+    0
+}
