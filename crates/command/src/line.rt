@@ -1,0 +1,177 @@
+use super::asked::Command;
+use super::asked::Fault;
+use super::number::Taken;
+use super::number::take_address;
+use super::number::take_number;
+use super::route_words::TakenPrefix;
+use super::route_words::TakenRoute;
+use super::route_words::take_prefix;
+use super::route_words::take_route;
+use super::word::after;
+use super::word::uncommented;
+use super::word::word;
+use check::same;
+
+// A command whose last word was read: another word is one too many.
+fn last(line: &[u8], end: usize, command: Command) -> Command {
+    if let Command::Wrong(_) = command {
+        return command;
+    }
+    if word(line, end).len() == 0 {
+        command
+    } else {
+        Command::Wrong(Fault::TooManyWords)
+    }
+}
+
+fn fresh(line: &[u8], at: usize) -> Command {
+    match take_number(line, at) {
+        Taken::Value(capacity, end) => last(line, end, Command::Fresh(capacity)),
+        Taken::Wrong(fault) => Command::Wrong(fault),
+    }
+}
+
+fn words(line: &[u8], at: usize) -> Command {
+    match take_number(line, at) {
+        Taken::Value(capacity, end) => last(line, end, Command::Words(capacity)),
+        Taken::Wrong(fault) => Command::Wrong(fault),
+    }
+}
+
+fn peek(line: &[u8], at: usize) -> Command {
+    match take_number(line, at) {
+        Taken::Value(index, end) => last(line, end, Command::Peek(index)),
+        Taken::Wrong(fault) => Command::Wrong(fault),
+    }
+}
+
+fn poke(line: &[u8], at: usize) -> Command {
+    match take_number(line, at) {
+        Taken::Value(index, next) => match take_number(line, next) {
+            Taken::Value(value, end) => last(line, end, Command::Poke(index, value)),
+            Taken::Wrong(fault) => Command::Wrong(fault),
+        },
+        Taken::Wrong(fault) => Command::Wrong(fault),
+    }
+}
+
+fn lookup(line: &[u8], at: usize) -> Command {
+    match take_address(line, at) {
+        Taken::Value(destination, end) => last(line, end, Command::Lookup(destination)),
+        Taken::Wrong(fault) => Command::Wrong(fault),
+    }
+}
+
+fn mask(line: &[u8], at: usize) -> Command {
+    match take_address(line, at) {
+        Taken::Value(bits, end) => last(line, end, Command::Mask(bits)),
+        Taken::Wrong(fault) => Command::Wrong(fault),
+    }
+}
+
+fn delete(line: &[u8], at: usize) -> Command {
+    match take_prefix(line, at) {
+        TakenPrefix::Value(prefix, end) => last(line, end, Command::Delete(prefix)),
+        TakenPrefix::Wrong(fault) => Command::Wrong(fault),
+    }
+}
+
+fn next(line: &[u8], at: usize) -> Command {
+    match take_prefix(line, at) {
+        TakenPrefix::Value(prefix, end) => last(line, end, Command::Next(prefix)),
+        TakenPrefix::Wrong(fault) => Command::Wrong(fault),
+    }
+}
+
+fn add(line: &[u8], at: usize) -> Command {
+    match take_route(line, at) {
+        TakenRoute::Value(route, end) => last(line, end, Command::Add(route)),
+        TakenRoute::Wrong(fault) => Command::Wrong(fault),
+    }
+}
+
+fn change(line: &[u8], at: usize) -> Command {
+    match take_route(line, at) {
+        TakenRoute::Value(route, end) => last(line, end, Command::Change(route)),
+        TakenRoute::Wrong(fault) => Command::Wrong(fault),
+    }
+}
+
+// The commands of one word.
+fn bare(verb: &[u8]) -> Command {
+    if same(verb, b"first") {
+        return Command::First;
+    }
+    if same(verb, b"room") {
+        return Command::Room;
+    }
+    if same(verb, b"sound") {
+        return Command::Sound;
+    }
+    if same(verb, b"list") {
+        return Command::List;
+    }
+    if same(verb, b"open") {
+        return Command::Open;
+    }
+    if same(verb, b"keep") {
+        return Command::Keep;
+    }
+    if same(verb, b"back") {
+        return Command::Back;
+    }
+    if same(verb, b"step") {
+        return Command::Step;
+    }
+    Command::Wrong(Fault::UnknownCommand)
+}
+
+// The commands that take numbers, then those of one word.
+fn with_numbers(verb: &[u8], line: &[u8], at: usize) -> Command {
+    if same(verb, b"fresh") {
+        return fresh(line, at);
+    }
+    if same(verb, b"words") {
+        return words(line, at);
+    }
+    if same(verb, b"peek") {
+        return peek(line, at);
+    }
+    if same(verb, b"poke") {
+        return poke(line, at);
+    }
+    last(line, at, bare(verb))
+}
+
+// The commands that take an address, a prefix or a route, then the others.
+fn with_addresses(verb: &[u8], line: &[u8], at: usize) -> Command {
+    if same(verb, b"lookup") {
+        return lookup(line, at);
+    }
+    if same(verb, b"add") {
+        return add(line, at);
+    }
+    if same(verb, b"delete") {
+        return delete(line, at);
+    }
+    if same(verb, b"change") {
+        return change(line, at);
+    }
+    if same(verb, b"next") {
+        return next(line, at);
+    }
+    if same(verb, b"mask") {
+        return mask(line, at);
+    }
+    with_numbers(verb, line, at)
+}
+
+// The command of a line, whatever bytes it has.
+pub fn parse(text: &[u8]) -> Command {
+    let line = uncommented(text);
+    let verb = word(line, 0);
+    if verb.len() == 0 {
+        return Command::Nothing;
+    }
+    with_addresses(verb, line, after(line, 0))
+}
