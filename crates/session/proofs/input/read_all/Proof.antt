@@ -1,0 +1,45 @@
+-- Nothing is claimed of the words, so the invariant is empty. The measure is the turns that are left.
+use borrow.Author.Needs.{needs}
+use Rattle.session.proofs.input.read_all.Statement.{statement}
+use Rattle.session.proofs.input.read_all.Tie as tie
+
+abbrev Inv-loop : tie.InvT-loop
+Inv-loop words₀ line₀ answers at₀ turns₀ words line at turns = Unit
+
+abbrev μ-loop : tie.MeasureT-loop
+μ-loop words₀ line₀ answers at₀ turns₀ words line at turns = turns
+
+loop-holds : tie.Need-loop-holds Inv-loop μ-loop
+loop-holds c = search needs
+
+read-some-requires : tie.Need-read-some-requires Inv-loop μ-loop
+read-some-requires c κs = search needs
+
+sub-turns : tie.Need-sub-turns Inv-loop μ-loop
+sub-turns c = search needs
+
+loop-less : tie.Need-loop-less Inv-loop μ-loop
+loop-less c = search needs
+
+loop-again : tie.Need-loop-again Inv-loop μ-loop
+loop-again c = search needs
+
+returns : tie.Need-returns Inv-loop μ-loop
+returns c = search needs
+
+returns-2 : tie.Need-returns-2 Inv-loop μ-loop
+returns-2 c = search needs
+
+pub read-all-spec : {M : Type 1} → statement M
+read-all-spec =
+    tie.close
+    (tie.spec
+    Inv-loop
+    μ-loop
+    loop-holds
+    read-some-requires
+    sub-turns
+    loop-less
+    loop-again
+    returns
+    returns-2)

@@ -1,0 +1,34 @@
+use super::change::Words;
+use super::text::number;
+use super::text::number_line;
+use super::text::route_line;
+use super::text::text;
+use route::Found;
+use route::Room;
+
+// The routes in walk order. There are no more than the largest capacity, which is what ends the loop for the proof.
+fn walk(words: &Words) {
+    let mut at = table::first(words);
+    for _ in 0..pool::LIMIT {
+        let Found::Route(r) = at else {
+            return;
+        };
+        route_line(r);
+        at = table::next(words, r.prefix);
+    }
+}
+
+// Document 01's listing, or the number of the refusal. A sound pool has its capacity and its count of routes in its first two
+// words.
+pub fn list(words: &Words) {
+    let answer = table::room_left(words);
+    let Room::Left(_) = answer else {
+        number_line(answer.number());
+        return;
+    };
+    text(b"routes ");
+    number(words[1]);
+    text(b" of ");
+    number_line(words[0]);
+    walk(words);
+}

@@ -1,0 +1,56 @@
+// Numbers, addresses and routes as text on standard output.
+use route::Hop;
+use route::Prefix;
+use route::Route;
+
+pub(crate) fn text(bytes: &[u8]) {
+    io::write_all(1, bytes);
+}
+
+pub(crate) fn number(n: u32) {
+    io::print_decimal(1, n as u64);
+}
+
+pub(crate) fn number_line(n: u32) {
+    number(n);
+    text(b"\n");
+}
+
+fn address(a: u32) {
+    number(a >> 24);
+    text(b".");
+    number((a >> 16) & 255);
+    text(b".");
+    number((a >> 8) & 255);
+    text(b".");
+    number(a & 255);
+}
+
+fn prefix(p: Prefix) {
+    address(p.address);
+    text(b"/");
+    number(p.length.0);
+}
+
+fn hop(h: Hop) {
+    match h {
+        Hop::Direct(port) => {
+            text(b" direct ");
+            number(port.0);
+        }
+        Hop::Via(port, gateway) => {
+            text(b" via ");
+            number(port.0);
+            text(b" ");
+            address(gateway);
+        }
+        Hop::Reject => text(b" reject"),
+    }
+}
+
+pub(crate) fn route_line(r: Route) {
+    let end = r.hop;
+    prefix(r.prefix);
+    hop(end);
+    text(b"\n");
+}
