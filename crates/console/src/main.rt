@@ -1,0 +1,6 @@
+// Commands on standard input, one a line, and an answer line for each on standard output. The pool is inside the program: its
+// words are 0 before the first fresh, which is a damaged pool.
+fn main() {
+    let mut words = [0u32; 2200];
+    session::run(&mut words, true);
+}
