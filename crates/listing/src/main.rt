@@ -1,0 +1,6 @@
+// The listing of the table that the commands on standard input leave, and nothing else.
+fn main() {
+    let mut words = [0u32; 2200];
+    session::run(&mut words, false);
+    session::list(&words);
+}
