@@ -1,0 +1,73 @@
+//! A command put to a table, and its answer as the line that the console prints.
+use crate::calls::Calls;
+use crate::language::{command, Command};
+use crate::rules::{Hop, Prefix, Route};
+
+pub fn dotted(address: u32) -> String {
+    address.to_be_bytes().map(|byte| byte.to_string()).join(".")
+}
+
+pub fn prefix_text(prefix: Prefix) -> String {
+    format!("{}/{}", dotted(prefix.address), prefix.length)
+}
+
+pub fn hop_text(hop: Hop) -> String {
+    match hop {
+        Hop::Direct(port) => format!("direct {port}"),
+        Hop::Via(port, gateway) => format!("via {port} {}", dotted(gateway)),
+        Hop::Reject => "reject".to_string(),
+    }
+}
+
+fn route_text(route: Route) -> String {
+    format!("{} {}", prefix_text(route.prefix), hop_text(route.hop))
+}
+
+fn with_value(answer: Result<String, u32>) -> String {
+    answer.map_or_else(|number| number.to_string(), |value| format!("0 {value}"))
+}
+
+/// The listing of document 01, by the walk; capacity is the routes and the room together.
+fn list(table: &impl Calls) -> Result<String, u32> {
+    let room = table.room()?;
+    let mut lines = String::new();
+    let mut held = 0;
+    let mut route = table.first();
+    while let Ok(found) = route {
+        held += 1;
+        lines += &format!("\n{}", route_text(found));
+        route = table.next(found.prefix);
+    }
+    Ok(format!("routes {held} of {}{lines}", held + room))
+}
+
+fn obey(table: &mut impl Calls, said: Command) -> Result<String, &'static str> {
+    let text = match said {
+        Command::Fresh(capacity) => table.fresh(capacity).to_string(),
+        Command::Add(prefix, hop) => table.add(prefix, hop).to_string(),
+        Command::Change(prefix, hop) => table.change(prefix, hop).to_string(),
+        Command::Delete(prefix) => table.delete(prefix).to_string(),
+        Command::Lookup(destination) => with_value(table.lookup(destination).map(route_text)),
+        Command::First => with_value(table.first().map(route_text)),
+        Command::Next(after) => with_value(table.next(after).map(route_text)),
+        Command::Room => with_value(table.room().map(|room| room.to_string())),
+        Command::Mask(word) => with_value(table.mask_length(word).map(|length| length.to_string())),
+        Command::Open => table.open().to_string(),
+        Command::Keep => table.keep().to_string(),
+        Command::Back => table.back_out().to_string(),
+        Command::Step => table.step_back().to_string(),
+        Command::Sound => if table.sound() { "yes" } else { "no" }.to_string(),
+        Command::List => list(table).unwrap_or_else(|number| number.to_string()),
+        Command::Words(capacity) => table.words(capacity).to_string(),
+        Command::Peek(place) => table.peek(place)?.to_string(),
+        Command::Poke(place, word) => table.poke(place, word).map(|()| "0".to_string())?,
+    };
+    Ok(text)
+}
+
+/// The answer to one line, without its newline; None for a line that asks nothing. Lines count from 1.
+pub fn answer(table: &mut impl Calls, line: &[u8], number: usize) -> Option<String> {
+    let said = command(line).transpose()?;
+    let text = said.and_then(|command| obey(table, command));
+    Some(text.unwrap_or_else(|wrong| format!("error: line {number}: {wrong}")))
+}
