@@ -3,9 +3,11 @@
 //! a list has no words.
 //!
 //!     console                      commands on standard input, answers on standard output
+//!     console --random SEED COUNT  a script of COUNT commands
 mod calls;
 mod language;
 mod model;
+mod random;
 mod rules;
 mod speak;
 
@@ -25,9 +27,23 @@ fn run() -> io::Result<()> {
     out.flush()
 }
 
+fn print_script(seed: &str, count: &str) -> Option<()> {
+    for line in random::script(seed.parse().ok()?, count.parse().ok()?) {
+        println!("{line}");
+    }
+    Some(())
+}
+
 fn main() -> ExitCode {
-    if let Err(error) = run() {
-        eprintln!("console: {error}");
+    let words: Vec<String> = std::env::args().skip(1).collect();
+    let words: Vec<&str> = words.iter().map(String::as_str).collect();
+    let done = match words[..] {
+        [] => run().map_err(|error| eprintln!("console: {error}")).ok(),
+        ["--random", seed, count] => print_script(seed, count),
+        _ => None,
+    };
+    if done.is_none() {
+        eprintln!("usage: console <COMMANDS, or console --random SEED COUNT");
         return ExitCode::FAILURE;
     }
     ExitCode::SUCCESS

@@ -54,6 +54,10 @@ impl Model {
         Model { table: Some(Table { capacity, routes, trial: None }) }
     }
 
+    pub fn routes(&self) -> &[Route] {
+        self.table.as_ref().map_or(&[], |t| &t.routes)
+    }
+
     fn held(&self) -> Result<&Table, u32> {
         self.table.as_ref().ok_or(9)
     }
