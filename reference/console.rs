@@ -14,12 +14,25 @@ mod speak;
 use std::io::{self, Read, Write};
 use std::process::ExitCode;
 
+/// Lines end in a newline; a last line without one counts; what follows the last newline counts only if it is not empty. A
+/// carriage return before the newline belongs to the line's end.
+fn lines(input: &[u8]) -> Vec<&[u8]> {
+    input.split_inclusive(|&byte| byte == b'\n').map(without_end).collect()
+}
+
+fn without_end(line: &[u8]) -> &[u8] {
+    match line {
+        [start @ .., b'\r', b'\n'] | [start @ .., b'\n'] => start,
+        rest => rest,
+    }
+}
+
 fn run() -> io::Result<()> {
     let mut input = vec![];
     io::stdin().read_to_end(&mut input)?;
     let mut table = model::Model::default();
     let mut out = io::BufWriter::new(io::stdout().lock());
-    for (before, line) in language::lines(&input).into_iter().enumerate() {
+    for (before, line) in lines(&input).into_iter().enumerate() {
         if let Some(text) = speak::answer(&mut table, line, before + 1) {
             writeln!(out, "{text}")?;
         }

@@ -29,19 +29,6 @@ type Wrong = &'static str;
 
 const LONGEST_LINE: usize = 200;
 
-/// Lines end in a newline; a last line without one counts; what follows the last newline counts only if it is not empty. A
-/// carriage return before the newline belongs to the line's end.
-pub fn lines(input: &[u8]) -> Vec<&[u8]> {
-    input.split_inclusive(|&byte| byte == b'\n').map(without_end).collect()
-}
-
-fn without_end(line: &[u8]) -> &[u8] {
-    match line {
-        [start @ .., b'\r', b'\n'] | [start @ .., b'\n'] => start,
-        rest => rest,
-    }
-}
-
 /// None is a blank line or a comment alone.
 pub fn command(line: &[u8]) -> Result<Option<Command>, Wrong> {
     if line.len() > LONGEST_LINE {

@@ -1,5 +1,5 @@
-//! Scripts of commands from a seed: the same seed gives the same script. Prefixes are drawn from a few neighbouring addresses,
-//! so that they collide, nest and share addresses; the list runs along, so that a script can name what is held.
+//! Scripts of commands from a seed: the same seed gives the same script. Prefixes are drawn from a few neighbouring
+//! addresses, so that they collide, nest and share addresses; the list runs along, so that a script can name what is held.
 use crate::calls::Calls;
 use crate::model::Model;
 use crate::rules::{mask, Hop, Prefix};
@@ -31,7 +31,12 @@ impl Dice {
 }
 
 pub fn script(seed: u64, count: usize) -> Vec<String> {
-    let mut writer = Writer::new(seed);
+    script_over(Model::default(), seed, count)
+}
+
+/// A script for a table that is there already.
+pub fn script_over(model: Model, seed: u64, count: usize) -> Vec<String> {
+    let mut writer = Writer::new(model, seed);
     while writer.lines.len() < count {
         writer.write();
     }
@@ -75,11 +80,10 @@ const ODD_LINES: [&str; 20] = [
 ];
 
 impl Writer {
-    fn new(seed: u64) -> Writer {
-        let mut writer =
-            Writer { dice: Dice(seed), model: Model::default(), near: vec![], adds: 0, patience: 0, lines: vec![] };
+    fn new(model: Model, seed: u64) -> Writer {
+        let mut writer = Writer { dice: Dice(seed), model, near: vec![], adds: 0, patience: 0, lines: vec![] };
         writer.turn();
-        if !writer.dice.one_in(8) {
+        if !writer.model.sound() && !writer.dice.one_in(8) {
             writer.fresh();
         }
         writer
@@ -87,7 +91,9 @@ impl Writer {
 
     /// New neighbours and a new temper.
     fn turn(&mut self) {
-        let root = self.dice.draw() as u32;
+        let mut roots: Vec<u32> = self.model.routes().iter().map(|route| route.prefix.address).collect();
+        roots.push(self.dice.draw() as u32);
+        let root = self.dice.of(&roots);
         self.near = vec![root, self.dice.of(&[0, u32::MAX, 0x7F00_0001, root ^ 1, root ^ 0x8000_0000])];
         for _ in 0..14 {
             let neighbour = self.dice.of(&self.near);

@@ -1,0 +1,183 @@
+//! What a pool owes whose words are anything. Where the table says it is not sound, every call refuses with 9 and changes
+//! nothing; where it still says it is, it must behave as a table, and the list takes over its routes to say how.
+use crate::calls::Calls;
+use crate::model::Model;
+use crate::pool::{Pool, LENT};
+use crate::random::{script_over, Dice};
+use crate::rules::{mask, Hop, Prefix, Route, MOST_CHANGES, MOST_ROUTES};
+use crate::speak::answer;
+
+type Wrong = String;
+
+/// Every promise that a pool of any words has to keep; `seed` only draws the addresses and the scripts.
+pub fn check(pool: &Pool, seed: u64) -> Result<(), Wrong> {
+    let mut dice = Dice(seed);
+    if pool.sound() {
+        behaves(pool, &mut dice)?;
+        let size = pool.size();
+        refuses(&pool.lending(size - 1), &mut dice)?;
+        refuses(&pool.lending(dice.below(size as u32) as usize), &mut dice)?;
+        let exact = pool.lending(size);
+        ensure(exact.sound() && walk(&exact)? == walk(pool)?, "another table when just its size is lent")?;
+    } else {
+        refuses(pool, &mut dice)?;
+    }
+    begins_anew(pool, &mut dice)
+}
+
+pub fn ensure(holds: bool, what: &str) -> Result<(), Wrong> {
+    if holds {
+        Ok(())
+    } else {
+        Err(what.to_string())
+    }
+}
+
+fn no_complaint(pool: &Pool) -> Result<(), Wrong> {
+    pool.complaint().map_or(Ok(()), Err)
+}
+
+/// One of the calls that answer with a number alone.
+type Change = (&'static str, fn(&mut Pool) -> u32);
+
+const HOST: Prefix = Prefix { address: 0x0A00_0001, length: 32 };
+
+const CHANGES: [Change; 9] = [
+    ("add", |p| p.add(HOST, Hop::Direct(1))),
+    ("add of a bad route", |p| p.add(Prefix { address: 1, length: 33 }, Hop::Direct(16))),
+    ("add of no hop", |p| p.add_kind(HOST, 3)),
+    ("delete", |p| p.delete(HOST)),
+    ("change", |p| p.change(HOST, Hop::Reject)),
+    ("open", |p| p.open()),
+    ("keep", |p| p.keep()),
+    ("back", |p| p.back_out()),
+    ("step", |p| p.step_back()),
+];
+
+/// Not sound: 9 from every call but fresh and mask; a lookup answers 0, 9 or 13.
+fn refuses(pool: &Pool, dice: &mut Dice) -> Result<(), Wrong> {
+    ensure(!pool.sound(), "sound says yes of a pool that is too short")?;
+    for (name, call) in CHANGES {
+        let mut copy = pool.clone();
+        let number = call(&mut copy);
+        ensure(number == 9, &format!("{name} answers {number} in a pool that is not sound"))?;
+        no_complaint(&copy)?;
+    }
+    ensure(pool.first() == Err(9), "first is not 9 in a pool that is not sound")?;
+    ensure(pool.next(HOST) == Err(9), "next is not 9 in a pool that is not sound")?;
+    ensure(pool.next(Prefix { address: 1, length: 8 }) == Err(9), "next after a bad prefix is not 9 first")?;
+    ensure(pool.room() == Err(9), "room is not 9 in a pool that is not sound")?;
+    ensure(pool.mask_length(0xFF00_0000) == Ok(8), "mask asks after the pool")?;
+    for _ in 0..8 {
+        let number = pool.lookup(address_of(pool, dice)).err().unwrap_or(0);
+        ensure([0, 9, 13].contains(&number), &format!("lookup answers {number}"))?;
+    }
+    no_complaint(pool)
+}
+
+/// An address that stands somewhere in the words, or any.
+fn address_of(pool: &Pool, dice: &mut Dice) -> u32 {
+    let words = pool.words_lent();
+    if words.is_empty() || dice.one_in(3) {
+        return dice.draw() as u32;
+    }
+    let low = dice.draw() as u32 & !mask(dice.below(33));
+    dice.of(words) ^ low
+}
+
+/// The routes in the order of the walk, which must be strict, and each must be one that a table may hold.
+fn walk(pool: &Pool) -> Result<Vec<Route>, Wrong> {
+    let mut routes: Vec<Route> = vec![];
+    let mut found = pool.first();
+    while let Ok(route) = found {
+        ensure(route.prefix.well_formed() && route.hop.good(), &format!("the walk gives {route:?}"))?;
+        let in_order = routes.last().is_none_or(|last| last.prefix.rank() < route.prefix.rank());
+        ensure(in_order, &format!("the walk gives {route:?} out of order"))?;
+        ensure(routes.len() < MOST_ROUTES as usize, "the walk goes on past 96 routes")?;
+        routes.push(route);
+        found = pool.next(route.prefix);
+    }
+    ensure(found == Err(14), "the walk ends without 14")?;
+    Ok(routes)
+}
+
+fn behaves(pool: &Pool, dice: &mut Dice) -> Result<(), Wrong> {
+    let routes = walk(pool)?;
+    let room = pool.room().map_err(|number| format!("room answers {number} in a sound pool"))?;
+    let capacity = room + routes.len() as u32;
+    ensure(pool.peek(0) == Ok(capacity), "routes and room are not the capacity")?;
+    let mut model = Model::of(capacity, routes);
+    longest_match(pool, &model, dice)?;
+    no_complaint(pool)?;
+    let mut copy = pool.clone();
+    match copy.open() {
+        0 => model.open(),
+        10 => {
+            takes_back(pool)?;
+            copy.keep()
+        }
+        number => return Err(format!("open answers {number} in a sound pool")),
+    };
+    let lines = script_over(model.clone(), dice.draw(), 30);
+    no_complaint(&copy)?;
+    let told =
+        |wrong| format!("{wrong}\nwhen this follows (its trial kept, or else one opened):\n    {}", lines.join("\n    "));
+    agree(&mut copy, &mut model, &lines).map_err(told)
+}
+
+fn longest_match(pool: &Pool, model: &Model, dice: &mut Dice) -> Result<(), Wrong> {
+    let mut asked = vec![0, u32::MAX];
+    for route in model.routes() {
+        asked.extend([route.prefix.address, route.prefix.address ^ dice.draw() as u32 & !mask(dice.below(33))]);
+    }
+    for to in asked {
+        ensure(pool.lookup(to) == model.lookup(to), &format!("lookup {to:#010x} is not the longest match of the walk"))?;
+    }
+    Ok(())
+}
+
+/// An open trial can be backed out of, and step by step to the same table.
+fn takes_back(pool: &Pool) -> Result<(), Wrong> {
+    let mut out = pool.clone();
+    ensure(out.back_out() == 0, "a trial can't be backed out of")?;
+    ensure(out.back_out() == 11, "a trial is still open after it was backed out of")?;
+    let mut step = pool.clone();
+    let mut steps = 0;
+    while step.step_back() == 0 {
+        steps += 1;
+        walk(&step)?;
+        ensure(steps <= MOST_CHANGES, "more than 64 steps back")?;
+    }
+    ensure(step.step_back() == 12, "steps back end without 12")?;
+    ensure(walk(&step)? == walk(&out)?, "stepping back and backing out differ")?;
+    let mut kept = pool.clone();
+    ensure(kept.keep() == 0 && walk(&kept)? == walk(pool)?, "keep changes the routes")?;
+    [out, step, kept].iter().try_for_each(no_complaint)
+}
+
+/// Fresh takes a buffer of any words, if it is long enough.
+fn begins_anew(pool: &Pool, dice: &mut Dice) -> Result<(), Wrong> {
+    let capacity = dice.below(MOST_ROUTES) + 1;
+    let mut copy = pool.lending(LENT);
+    ensure(copy.fresh(capacity) == 0, "fresh is refused")?;
+    ensure(copy.room() == Ok(capacity) && copy.first() == Err(14), "a fresh table is not empty")?;
+    ensure(copy.step_back() == 11, "a fresh table has a trial open")?;
+    let mut short = pool.lending(copy.size() - 1);
+    ensure(short.fresh(capacity) == 2, "fresh is not 2 in a buffer that is too short")?;
+    ensure(short.fresh(97) == 1, "fresh is not 1 before 2")?;
+    no_complaint(&copy)?;
+    no_complaint(&short)
+}
+
+/// The same lines to both, answer by answer.
+pub fn agree(pool: &mut Pool, model: &mut Model, lines: &[String]) -> Result<(), Wrong> {
+    for (before, line) in lines.iter().enumerate() {
+        let due = answer(model, line.as_bytes(), before + 1);
+        let given = answer(pool, line.as_bytes(), before + 1);
+        if due != given {
+            return Err(format!("{line}\n  the list answers {due:?}\n  the table     {given:?}"));
+        }
+        no_complaint(pool).map_err(|wrong| format!("{line}: {wrong}"))?;
+    }
+    Ok(())
+}
