@@ -1,18 +1,27 @@
-//! What a pool owes whose words are anything. Where the table says it is not sound, every call refuses with 9 and changes
-//! nothing; where it still says it is, it must behave as a table, and the list takes over its routes to say how.
+//! What a pool owes whose words are anything. The soundness call must agree with the second test (words.rs). Where it says no,
+//! every call refuses with 9 and changes nothing; where it says yes, the pool must behave as a table, and the list takes over
+//! its routes to say how.
 use crate::calls::Calls;
 use crate::model::Model;
 use crate::pool::{Pool, LENT};
 use crate::random::{script_over, Dice};
 use crate::rules::{mask, Hop, Prefix, Route, MOST_CHANGES, MOST_ROUTES};
 use crate::speak::answer;
+use crate::words::routes_if_sound;
 
 type Wrong = String;
 
 /// Every promise that a pool of any words has to keep; `seed` only draws the addresses and the scripts.
 pub fn check(pool: &Pool, seed: u64) -> Result<(), Wrong> {
     let mut dice = Dice(seed);
-    if pool.sound() {
+    let due = routes_if_sound(pool.words_lent());
+    match (pool.sound(), due.is_some()) {
+        (true, false) => return Err("sound says yes, and the second test no".to_string()),
+        (false, true) => return Err("sound says no, and the second test yes".to_string()),
+        _ => {}
+    }
+    if let Some(routes) = due {
+        ensure(walk(pool)? == routes, "the walk is not the routes that the words hold")?;
         behaves(pool, &mut dice)?;
         let size = pool.size();
         refuses(&pool.lending(size - 1), &mut dice)?;
@@ -25,7 +34,7 @@ pub fn check(pool: &Pool, seed: u64) -> Result<(), Wrong> {
     begins_anew(pool, &mut dice)
 }
 
-pub fn ensure(holds: bool, what: &str) -> Result<(), Wrong> {
+fn ensure(holds: bool, what: &str) -> Result<(), Wrong> {
     if holds {
         Ok(())
     } else {
@@ -109,6 +118,9 @@ fn behaves(pool: &Pool, dice: &mut Dice) -> Result<(), Wrong> {
     let mut model = Model::of(capacity, routes);
     longest_match(pool, &model, dice)?;
     no_complaint(pool)?;
+    if dice.one_in(4) {
+        fills(pool, &model, room)?;
+    }
     let mut copy = pool.clone();
     match copy.open() {
         0 => model.open(),
@@ -123,6 +135,20 @@ fn behaves(pool: &Pool, dice: &mut Dice) -> Result<(), Wrong> {
     let told =
         |wrong| format!("{wrong}\nwhen this follows (its trial kept, or else one opened):\n    {}", lines.join("\n    "));
     agree(&mut copy, &mut model, &lines).map_err(told)
+}
+
+/// As many routes as there is room for can be added, and no more: no place is lost.
+fn fills(pool: &Pool, model: &Model, room: u32) -> Result<(), Wrong> {
+    let mut copy = pool.clone();
+    copy.keep();
+    let held = |prefix: &Prefix| model.routes().iter().any(|route| route.prefix == *prefix);
+    let hosts = (0..).map(|i| Prefix { address: 0xC0A8_0000 + 3 * i, length: 32 }).filter(|host| !held(host));
+    for (count, host) in hosts.take(room as usize + 1).enumerate() {
+        let due = if count < room as usize { 0 } else { 7 };
+        let number = copy.add(host, Hop::Direct(1));
+        ensure(number == due, &format!("with room for {room}, add {} answers {number}", count + 1))?;
+    }
+    no_complaint(&copy)
 }
 
 fn longest_match(pool: &Pool, model: &Model, dice: &mut Dice) -> Result<(), Wrong> {
