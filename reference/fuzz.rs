@@ -158,12 +158,20 @@ fn go_on(seconds: u64, first: u64, note: &File) -> Result<bool, std::io::Error> 
     Ok(true)
 }
 
+fn one_round(seed: u64) -> bool {
+    let well = try_round(seed).is_some();
+    if well {
+        println!("fuzz: seed {seed}, no difference");
+    }
+    well
+}
+
 fn main() -> ExitCode {
     let words: Vec<String> = std::env::args().skip(1).collect();
     let number = |i: usize| words.get(i).and_then(|word| word.parse::<u64>().ok());
     let went = match (number(0), number(1), words.get(2)) {
         (Some(seconds), Some(seed), Some(note)) => File::create(note).and_then(|note| go_on(seconds, seed, &note)),
-        (None, Some(seed), None) => Ok(try_round(seed).is_some()),
+        (None, Some(seed), None) => Ok(one_round(seed)),
         _ => Err(std::io::Error::other("usage: fuzz SECONDS SEED NOTE, or fuzz --seed SEED")),
     };
     match went {
