@@ -118,6 +118,7 @@ fn behaves(pool: &Pool, dice: &mut Dice) -> Result<(), Wrong> {
     let mut model = Model::of(capacity, routes);
     longest_match(pool, &model, dice)?;
     no_complaint(pool)?;
+    knows_kinds(pool)?;
     if dice.one_in(4) {
         fills(pool, &model, room)?;
     }
@@ -135,6 +136,16 @@ fn behaves(pool: &Pool, dice: &mut Dice) -> Result<(), Wrong> {
     let told =
         |wrong| format!("{wrong}\nwhen this follows (its trial kept, or else one opened):\n    {}", lines.join("\n    "));
     agree(&mut copy, &mut model, &lines).map_err(told)
+}
+
+/// A kind above 2 is no hop: 4, after 3 and before all that asks what is held.
+fn knows_kinds(pool: &Pool) -> Result<(), Wrong> {
+    let mut copy = pool.clone();
+    for kind in [3, u32::MAX] {
+        ensure(copy.add_kind(HOST, kind) == 4, "an add of no hop is not 4")?;
+        ensure(copy.add_kind(Prefix { address: 1, length: 33 }, kind) == 3, "an add of no hop is 4 before 3")?;
+    }
+    no_complaint(&copy)
 }
 
 /// As many routes as there is room for can be added, and no more: no place is lost.
