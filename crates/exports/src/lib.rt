@@ -1,22 +1,22 @@
 // The table for C and Rust: each public call under a plain name, with numbers in place of the table's types. A slice comes as
 // a pointer and a count of words, an array as a pointer. `include/rishavand.h` is this page in C.
-mod begin;
-mod change;
+mod beginning;
+mod changing;
 mod codes;
-mod read;
+mod reading;
 
-pub use begin::rishavand_fresh;
-pub use begin::rishavand_words;
-pub use change::rishavand_add;
-pub use change::rishavand_back_out;
-pub use change::rishavand_change;
-pub use change::rishavand_delete;
-pub use change::rishavand_keep;
-pub use change::rishavand_open;
-pub use change::rishavand_step_back;
-pub use read::rishavand_first;
-pub use read::rishavand_lookup;
-pub use read::rishavand_mask_length;
-pub use read::rishavand_next;
-pub use read::rishavand_room;
-pub use read::rishavand_sound;
+pub use beginning::rishavand_fresh;
+pub use beginning::rishavand_words;
+pub use changing::rishavand_add;
+pub use changing::rishavand_back_out;
+pub use changing::rishavand_change;
+pub use changing::rishavand_delete;
+pub use changing::rishavand_keep;
+pub use changing::rishavand_open;
+pub use changing::rishavand_step_back;
+pub use reading::rishavand_first;
+pub use reading::rishavand_lookup;
+pub use reading::rishavand_mask_length;
+pub use reading::rishavand_next;
+pub use reading::rishavand_room;
+pub use reading::rishavand_sound;

@@ -1,0 +1,25 @@
+use mathlib.Core.Path.{ap}
+use Rattle.model.specs.Call.{add}
+use Rattle.exports.proofs.Answers.{as-call}
+use borrow.Author.Needs.{needs}
+use Rattle.exports.proofs.changing.rishavand_add.Statement.{statement}
+use Rattle.exports.proofs.changing.rishavand_add.Tie as tie
+
+route-from-requires : tie.Need-route-from-requires
+route-from-requires c κs = search needs
+
+add-requires : tie.Need-add-requires
+add-requires c κs = search needs
+
+number-requires : tie.Need-number-requires
+number-requires c κs = search needs
+
+same-length : tie.Need-same-length
+same-length c = search needs
+
+returns : tie.Need-returns
+returns c = as-call (ap add (c .before .before .before .before .before .route-from .ensures)) (c .number .ensures) (c .before .before .before .add .ensures)
+
+pub rishavand-add-spec : {M : Type 1} → statement M
+rishavand-add-spec =
+    tie.close (tie.spec route-from-requires add-requires number-requires same-length returns)

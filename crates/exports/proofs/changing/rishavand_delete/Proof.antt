@@ -1,0 +1,25 @@
+use mathlib.Core.Path.{ap}
+use Rattle.model.specs.Call.{delete}
+use Rattle.exports.proofs.Answers.{prefix-in, as-call}
+use borrow.Author.Needs.{needs}
+use Rattle.exports.proofs.changing.rishavand_delete.Statement.{statement}
+use Rattle.exports.proofs.changing.rishavand_delete.Tie as tie
+
+new-requires : tie.Need-new-requires
+new-requires c κs = search needs
+
+delete-requires : tie.Need-delete-requires
+delete-requires c κs = search needs
+
+number-requires : tie.Need-number-requires
+number-requires c κs = search needs
+
+same-length : tie.Need-same-length
+same-length c = search needs
+
+returns : tie.Need-returns
+returns c = as-call (ap delete (prefix-in (c .before .before .before .before .before .new .result) (c .before .before .before .before .before .new .ensures .0) (c .before .before .before .before .before .new .ensures .1))) (c .number .ensures) (c .before .before .before .delete .ensures)
+
+pub rishavand-delete-spec : {M : Type 1} → statement M
+rishavand-delete-spec =
+    tie.close (tie.spec new-requires delete-requires number-requires same-length returns)

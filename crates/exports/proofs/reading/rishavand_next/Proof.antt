@@ -1,0 +1,21 @@
+use mathlib.Core.Path.{refl, ap}
+use Rattle.model.specs.Call.{after}
+use Rattle.exports.proofs.Answers.{prefix-in, as-call, out-of}
+use borrow.Author.Needs.{needs}
+use Rattle.exports.proofs.reading.rishavand_next.Statement.{statement}
+use Rattle.exports.proofs.reading.rishavand_next.Tie as tie
+
+new-requires : tie.Need-new-requires
+new-requires c κs = search needs
+
+next-requires : tie.Need-next-requires
+next-requires c κs = search needs
+
+show-requires : tie.Need-show-requires
+show-requires c κs = search needs
+
+returns : tie.Need-returns
+returns c = out-of (c .show .ensures) (as-call (ap after (prefix-in (c .before .before .before .new .result) (c .before .before .before .new .ensures .0) (c .before .before .before .new .ensures .1))) refl (c .before .before .next .ensures))
+
+pub rishavand-next-spec : {M : Type 1} → statement M
+rishavand-next-spec = tie.close (tie.spec new-requires next-requires show-requires returns)
