@@ -1,3 +1,5 @@
+ghost use mathlib.Core.Path.{_≡_};
+ghost use Rattle.command.specs.Decimal.{ReadAs};
 use super::asked::Fault;
 use super::word::after;
 use super::word::word;
@@ -20,31 +22,30 @@ enum Octets {
     Bad,
 }
 
-fn wide(b: u8) -> u64 {
+fn wide(b: u8) -> u64
+    ensures { λ r. ⌜ r ≡ b ⌝ }
+{
     b as u64
 }
 
-// What a digit counts, or 10 for a byte that is none.
-fn digit(b: u8) -> u64 {
-    if b < b'0' || b'9' < b {
-        return 10;
-    }
-    wide(b - b'0')
-}
-
 // A decimal number. It is tested at each digit, so that a long one can't wrap into the range.
-pub(crate) fn decimal(s: &[u8]) -> Number {
+pub(crate) fn decimal(s: &[u8]) -> Number
+    ensures { λ r. ⌜ ReadAs (now (s .entry)) r ⌝ }
+{
     if s.len() == 0 {
         return Number::Bad;
     }
     let mut value: u64 = 0;
     let mut i = 0;
     while i < s.len() {
-        let d = digit(s[i]);
-        if 9 < d {
+        let b = s[i];
+        if b < b'0' {
             return Number::Bad;
         }
-        value = value * 10 + d;
+        if b'9' < b {
+            return Number::Bad;
+        }
+        value = value * 10 + wide(b - b'0');
         if 4294967295 < value {
             return Number::Bad;
         }
