@@ -24,23 +24,28 @@ fn last(line: &[u8], end: usize, command: Command) -> Command {
     }
 }
 
-fn fresh(line: &[u8], at: usize) -> Command {
-    match take_number(line, at) {
-        Taken::Value(capacity, end) => last(line, end, Command::Fresh(capacity)),
-        Taken::Wrong(fault) => Command::Wrong(fault),
+// The commands that take one number or one address.
+enum Single {
+    Fresh,
+    Words,
+    Peek,
+    Lookup,
+    Mask,
+}
+
+fn single_of(kind: Single, n: u32) -> Command {
+    match kind {
+        Single::Fresh => Command::Fresh(n),
+        Single::Words => Command::Words(n),
+        Single::Peek => Command::Peek(n),
+        Single::Lookup => Command::Lookup(n),
+        Single::Mask => Command::Mask(n),
     }
 }
 
-fn words(line: &[u8], at: usize) -> Command {
-    match take_number(line, at) {
-        Taken::Value(capacity, end) => last(line, end, Command::Words(capacity)),
-        Taken::Wrong(fault) => Command::Wrong(fault),
-    }
-}
-
-fn peek(line: &[u8], at: usize) -> Command {
-    match take_number(line, at) {
-        Taken::Value(index, end) => last(line, end, Command::Peek(index)),
+fn with_single(line: &[u8], kind: Single, taken: Taken) -> Command {
+    match taken {
+        Taken::Value(n, end) => last(line, end, single_of(kind, n)),
         Taken::Wrong(fault) => Command::Wrong(fault),
     }
 }
@@ -51,20 +56,6 @@ fn poke(line: &[u8], at: usize) -> Command {
             Taken::Value(value, end) => last(line, end, Command::Poke(index, value)),
             Taken::Wrong(fault) => Command::Wrong(fault),
         },
-        Taken::Wrong(fault) => Command::Wrong(fault),
-    }
-}
-
-fn lookup(line: &[u8], at: usize) -> Command {
-    match take_address(line, at) {
-        Taken::Value(destination, end) => last(line, end, Command::Lookup(destination)),
-        Taken::Wrong(fault) => Command::Wrong(fault),
-    }
-}
-
-fn mask(line: &[u8], at: usize) -> Command {
-    match take_address(line, at) {
-        Taken::Value(bits, end) => last(line, end, Command::Mask(bits)),
         Taken::Wrong(fault) => Command::Wrong(fault),
     }
 }
@@ -129,13 +120,13 @@ fn bare(verb: &[u8]) -> Command {
 // The commands that take numbers, then those of one word.
 fn with_numbers(verb: &[u8], line: &[u8], at: usize) -> Command {
     if same(verb, b"fresh") {
-        return fresh(line, at);
+        return with_single(line, Single::Fresh, take_number(line, at));
     }
     if same(verb, b"words") {
-        return words(line, at);
+        return with_single(line, Single::Words, take_number(line, at));
     }
     if same(verb, b"peek") {
-        return peek(line, at);
+        return with_single(line, Single::Peek, take_number(line, at));
     }
     if same(verb, b"poke") {
         return poke(line, at);
@@ -146,7 +137,7 @@ fn with_numbers(verb: &[u8], line: &[u8], at: usize) -> Command {
 // The commands that take an address, a prefix or a route, then the others.
 fn with_addresses(verb: &[u8], line: &[u8], at: usize) -> Command {
     if same(verb, b"lookup") {
-        return lookup(line, at);
+        return with_single(line, Single::Lookup, take_address(line, at));
     }
     if same(verb, b"add") {
         return add(line, at);
@@ -161,7 +152,7 @@ fn with_addresses(verb: &[u8], line: &[u8], at: usize) -> Command {
         return next(line, at);
     }
     if same(verb, b"mask") {
-        return mask(line, at);
+        return with_single(line, Single::Mask, take_address(line, at));
     }
     with_numbers(verb, line, at)
 }
