@@ -2,7 +2,7 @@
 use super::change::Changed;
 use super::change::Words;
 use super::routes::list;
-use super::text::number;
+use super::text::byte;
 use super::text::number_line;
 use super::text::route_line;
 use super::text::text;
@@ -33,13 +33,18 @@ fn wrong(line: u64, fault: Fault) {
     reason(fault);
 }
 
+// What stands before the value of an accepted call.
+fn accepted() {
+    text(b"0 ");
+}
+
 // A route, or the number of the refusal.
 fn found(answer: Found) {
     let Found::Route(r) = answer else {
         number_line(answer.number());
         return;
     };
-    text(b"0 ");
+    accepted();
     route_line(r);
 }
 
@@ -49,7 +54,7 @@ fn room(words: &Words) {
         number_line(answer.number());
         return;
     };
-    text(b"0 ");
+    accepted();
     number_line(left);
 }
 
@@ -59,7 +64,7 @@ fn mask(bits: u32) {
         number_line(answer.number());
         return;
     };
-    text(b"0 ");
+    accepted();
     number_line(length.0);
 }
 
@@ -74,11 +79,11 @@ fn sound(words: &Words) {
 // The words that a capacity needs, or 0 for a capacity that fresh refuses.
 fn needed(capacity: u32) {
     if capacity == 0 || pool::LIMIT < capacity {
-        text(b"0\n");
+        number_line(0);
         return;
     }
     io::print_decimal(1, pool::size_of(pool::wide(capacity)) as u64);
-    text(b"\n");
+    byte(b'\n');
 }
 
 fn peek(words: &Words, index: u32, line: u64) {

@@ -7,28 +7,32 @@ pub(crate) fn text(bytes: &[u8]) {
     io::write_all(1, bytes);
 }
 
+pub(crate) fn byte(b: u8) {
+    text(&[b]);
+}
+
 pub(crate) fn number(n: u32) {
     io::print_decimal(1, n as u64);
 }
 
 pub(crate) fn number_line(n: u32) {
     number(n);
-    text(b"\n");
+    byte(b'\n');
 }
 
 fn address(a: u32) {
     number(a >> 24);
-    text(b".");
+    byte(b'.');
     number((a >> 16) & 255);
-    text(b".");
+    byte(b'.');
     number((a >> 8) & 255);
-    text(b".");
+    byte(b'.');
     number(a & 255);
 }
 
 fn prefix(p: Prefix) {
     address(p.address);
-    text(b"/");
+    byte(b'/');
     number(p.length.0);
 }
 
@@ -41,7 +45,7 @@ fn hop(h: Hop) {
         Hop::Via(port, gateway) => {
             text(b" via ");
             number(port.0);
-            text(b" ");
+            byte(b' ');
             address(gateway);
         }
         Hop::Reject => text(b" reject"),
@@ -52,5 +56,5 @@ pub(crate) fn route_line(r: Route) {
     let end = r.hop;
     prefix(r.prefix);
     hop(end);
-    text(b"\n");
+    byte(b'\n');
 }
