@@ -157,7 +157,8 @@ fn with_addresses(verb: &[u8], line: &[u8], at: usize) -> Command {
     with_numbers(verb, line, at)
 }
 
-// The command of a line, whatever bytes it has.
+// The command of a line, whatever bytes it has. It ends and reads only the line; which command it is has no promise, since the
+// grammar stated in a contract would be this code again. The second program, written apart, is held to it.
 pub fn parse(text: &[u8]) -> Command {
     let line = uncommented(text);
     let verb = word(line, 0);

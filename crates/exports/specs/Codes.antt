@@ -12,6 +12,7 @@ use Rattle.pool.specs.Layout.{rules, size}
 abbrev pub wordsFor : ℕ → ℕ
 wordsFor c = cond (eqb c 0 || ltb (rules .limit) c) 0 (size c)
 
+-- The prefix that an address and a length mean, whether or not it is well formed.
 abbrev pub prefixIn : ℕ → ℕ → Prefix
 prefixIn a n = record { address = a; length = n }
 
@@ -23,6 +24,7 @@ hopIn (suc zero) p g = via p g
 hopIn (suc (suc zero)) p g = reject
 hopIn (suc (suc (suc k))) p g = direct 16
 
+-- The route that five words mean.
 abbrev pub routeIn : ℕ → ℕ → ℕ → ℕ → ℕ → Route Hop
 routeIn a n k p g = record { prefix = prefixIn a n; payload = hopIn k p g }
 

@@ -29,7 +29,7 @@ abbrev pub Longer : ℕ → List (Entry Seat) → Type 0
 Longer n [] = Unit {0}
 Longer n (e ∷ es) = (n < e .length) × Longer n es
 
--- A step's place, the side that it left, and the link to that side.
+-- The inner place of a step.
 abbrev pub placeOf : Step ℕ Seat → ℕ
 placeOf (wentLeft j b r) = j
 placeOf (wentRight j b l) = j

@@ -121,7 +121,8 @@ fn read_all(words: &mut Words, line: &mut Line, answers: bool) -> Input {
     at
 }
 
-// Every command of standard input, one a line. A last line without a newline counts.
+// Every command of standard input, one a line. A last line without a newline counts. It has no promise: what it does to the
+// words is what the commands ask for, `poke` any word among them, and no contract can speak of what is read or written.
 pub fn run(words: &mut Words, answers: bool) {
     let mut line = [0u8; 201];
     let at = read_all(words, &mut line, answers);

@@ -1,3 +1,10 @@
+ghost use mathlib.Core.Path.{_≡_};
+ghost use Rattle.model.specs.Ipv4 as ipv4;
+ghost use Rattle.model.specs.State.{Meaning};
+ghost use Rattle.model.specs.Call as call;
+ghost use Rattle.model.specs.Call.{number};
+ghost use Rattle.pool.specs.Layout.{rules};
+ghost use Rattle.promise.specs.Promise.{Meant};
 use super::change::Words;
 use super::text::number;
 use super::text::number_line;
@@ -18,17 +25,21 @@ fn walk(words: &Words) {
     }
 }
 
-// Document 01's listing, or the number of the refusal. A sound pool has its capacity and its count of routes in its first two
-// words.
-pub fn list(words: &Words) {
+// Document 01's listing, or the number of the refusal, which is answered too. A sound pool has its capacity and its count of
+// routes in its first two words.
+pub fn list(words: &Words) -> u32
+    ensures { λ r. ⌜ ((m : Meaning ipv4.Hop) → Meant (now (words .entry)) m → r ≡ number rules call.room m) ⌝ }
+{
     let answer = table::room_left(words);
+    let answered = answer.number();
     let Room::Left(_) = answer else {
-        number_line(answer.number());
-        return;
+        number_line(answered);
+        return answered;
     };
     text(b"routes ");
     number(words[1]);
     text(b" of ");
     number_line(words[0]);
     walk(words);
+    answered
 }

@@ -104,7 +104,9 @@ fn asked(words: &Words, command: Command, line: u64) {
         Command::Room => room(words),
         Command::Mask(bits) => mask(bits),
         Command::Sound => sound(words),
-        Command::List => list(words),
+        Command::List => {
+            let _ = list(words);
+        }
         Command::Words(capacity) => needed(capacity),
         Command::Peek(index) => peek(words, index, line),
         Command::Wrong(fault) => wrong(line, fault),
