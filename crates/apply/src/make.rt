@@ -3,7 +3,7 @@ ghost use Prim.Native.Nat.{_<_};
 ghost use Rattle.model.specs.Call as call;
 ghost use Rattle.pool.specs.Layout as layout;
 ghost use Rattle.route.specs.Means.{prefixOf, hopOf, routeOf};
-ghost use Rattle.search.specs.Fit.{Fit};
+ghost use Rattle.pool.specs.Fit.{Fit};
 ghost use Rattle.apply.specs.Does.{Accepted, Does};
 ghost use Rattle.apply.specs.Noted.{Noted, HeldHop};
 use route::Hop;

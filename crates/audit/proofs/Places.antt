@@ -10,13 +10,14 @@ use Rattle.pool.specs.Holds.{Seat, bare}
 use Rattle.pool.specs.Means.{routesUsed, innersUsed}
 use Rattle.pool.proofs.Frame.{routes-in-pool, inners-in-pool}
 use Rattle.shape.specs.Tree.{RootFine}
-use Rattle.shape.specs.Marks.{routeUsed, innerUsed}
+use Rattle.marks.specs.Marks.{isUsed}
+use Rattle.marks.specs.declared.Sort.{Sort}
 use Rattle.pool.proofs.Places.{route-used, inner-used}
 use Rattle.pool.proofs.Distinct.{routes-distinct, inners-distinct}
-use Rattle.shape.proofs.Tally.{Picked, passes}
+use Rattle.marks.proofs.Tally.{Picked, passes}
 
 module _ (c : ℕ) (ws : List ℕ) where
-  pub routes-picked : (t : Root ℕ Seat) → RootFine c ws t → Picked (routeUsed ws) c (routesUsed t)
+  pub routes-picked : (t : Root ℕ Seat) → RootFine c ws t → Picked (isUsed c ws Sort.Route) c (routesUsed t)
   routes-picked none f = record { distinct = tt; below = λ i k. absurd k; pass = λ i k. absurd k }
   routes-picked (some t) f =
       let g = root-obeys-good 32 (some (bare t)) (f .form) in record {
@@ -25,7 +26,7 @@ module _ (c : ℕ) (ws : List ℕ) where
         pass = λ i k. passes (kindAt ws i) (λ e. omega (arith, route-used c ws _ t (f .holds) i k, e));
       }
 
-  pub inners-picked : (t : Root ℕ Seat) → RootFine c ws t → Picked (innerUsed c ws) c (innersUsed t)
+  pub inners-picked : (t : Root ℕ Seat) → RootFine c ws t → Picked (isUsed c ws Sort.Inner) c (innersUsed t)
   inners-picked none f = record { distinct = tt; below = λ i k. absurd k; pass = λ i k. absurd k }
   inners-picked (some t) f =
       let g = root-obeys-good 32 (some (bare t)) (f .form) in record {

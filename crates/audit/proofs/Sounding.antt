@@ -17,12 +17,13 @@ use Rattle.pool.specs.Layout.{rules, rootIn, countIn, trialIn, standingIn, kind
 use Rattle.pool.specs.Holds.{Seat, bareRoot}
 use Rattle.pool.specs.Means.{Recorded, TrialThere, routesUsed, innersUsed, Means}
 use Rattle.pool.proofs.Unique.{root-unique}
-use Rattle.search.specs.Fit.{Fit}
+use Rattle.pool.specs.Fit.{Fit}
 use Rattle.audit.specs.Head.{HeadFine}
 use Rattle.shape.specs.Tree.{RootFine}
-use Rattle.shape.specs.Marks.{tally, routeUsed, innerUsed}
+use Rattle.marks.specs.Marks.{tally, isUsed}
+use Rattle.marks.specs.declared.Sort.{Sort}
 use Rattle.standing.specs.Changes.{decoded, ChangesFine, Tabled, BackSays}
-use Rattle.shape.proofs.Tally.{tally-le, passes, passed, has-all, all-there}
+use Rattle.marks.proofs.Tally.{tally-le, passes, passed, has-all, all-there}
 use Rattle.pool.proofs.Places.{route-count}
 use Rattle.audit.proofs.Places.{routes-picked, inners-picked}
 use Rattle.standing.proofs.Recording.{decoded-length, recorded-is, fine-recorded, recorded-fine}
@@ -37,8 +38,8 @@ pub record AuditFine (c : ℕ) (ws : List ℕ) : Type 0 where
   pub tree : Root ℕ Seat
   pub root : RootFine c ws tree
   pub count : countIn ws ≡ length (routesUsed tree)
-  pub routeMarks : length (routesUsed tree) ≡ tally (routeUsed ws) c
-  pub innerMarks : length (innersUsed tree) ≡ tally (innerUsed c ws) c
+  pub routeMarks : length (routesUsed tree) ≡ tally (isUsed c ws Sort.Route) c
+  pub innerMarks : length (innersUsed tree) ≡ tally (isUsed c ws Sort.Inner) c
   pub changesFine : ChangesFine c ws (standingIn ws)
   pub undoable : Undoable c (decoded c ws (standingIn ws)) (rootRoutes (bareRoot tree))
 
@@ -86,7 +87,7 @@ module _ (c : ℕ) (ws : List ℕ) where
           lawful = record {
             atLeastOne = f .head .atLeastOne;
             inRange = f .head .inRange;
-            noMore = omega (arith, places, f .routeMarks, tally-le (routeUsed ws) c);
+            noMore = omega (arith, places, f .routeMarks, tally-le (isUsed c ws Sort.Route) c);
             obeyed = rooted .obey;
             ordered = tabled-order c ws l (tabled (f .tree) rooted);
             recorded = t .obey;
@@ -99,8 +100,8 @@ module _ (c : ℕ) (ws : List ℕ) where
           holds = rooted .holds;
           obeys = rooted .form;
           routesThere = refl;
-          routePlacesUsed = λ i h u. has-all (routeUsed ws) c _ (routes-picked c ws (f .tree) rooted) (f .routeMarks) i h (passes (kindAt ws i) (λ e. omega (arith, u, e)));
-          innerPlacesUsed = λ j h u. has-all (innerUsed c ws) c _ (inners-picked c ws (f .tree) rooted) (f .innerMarks) j h (passes (markAt c ws j) (λ e. omega (arith, u, e)));
+          routePlacesUsed = λ i h u. has-all (isUsed c ws Sort.Route) c _ (routes-picked c ws (f .tree) rooted) (f .routeMarks) i h (passes (kindAt ws i) (λ e. omega (arith, u, e)));
+          innerPlacesUsed = λ j h u. has-all (isUsed c ws Sort.Inner) c _ (inners-picked c ws (f .tree) rooted) (f .innerMarks) j h (passes (markAt c ws j) (λ e. omega (arith, u, e)));
         },
         refl,
       )
@@ -144,8 +145,8 @@ module _ (ws : List ℕ) (s : State Hop) (m : Means ws s) where
         tree = m .tree;
         root = rooted;
         count = m .countThere ∙ ap length (sym (m .routesThere)) ∙ sym (route-count (m .tree));
-        routeMarks = all-there (routeUsed ws) (s .capacity) _ (routes-picked (s .capacity) ws (m .tree) rooted) (λ i h p. m .routePlacesUsed i h (passed (kindAt ws i) p));
-        innerMarks = all-there (innerUsed (s .capacity) ws) (s .capacity) _ (inners-picked (s .capacity) ws (m .tree) rooted) (λ j h p. m .innerPlacesUsed j h (passed (markAt (s .capacity) ws j) p));
+        routeMarks = all-there (isUsed (s .capacity) ws Sort.Route) (s .capacity) _ (routes-picked (s .capacity) ws (m .tree) rooted) (λ i h p. m .routePlacesUsed i h (passed (kindAt ws i) p));
+        innerMarks = all-there (isUsed (s .capacity) ws Sort.Inner) (s .capacity) _ (inners-picked (s .capacity) ws (m .tree) rooted) (λ j h p. m .innerPlacesUsed j h (passed (markAt (s .capacity) ws j) p));
         changesFine = t .changesFine;
         undoable = subst (Undoable (s .capacity) (decoded (s .capacity) ws (standingIn ws))) (sym (m .routesThere)) (t .undoable);
       }
@@ -157,7 +158,7 @@ sound-fine c ws (s, m, e) = subst (λ (x : ℕ). AuditFine x ws) e (means-fine w
 
 module _ (c : ℕ) (ws : List ℕ) (n m : ℕ) (x : (t : Root ℕ Seat) × RootFine c ws t × (n ≡ length (routesUsed t)) × (m ≡ length (innersUsed t))) where
   -- a sound pool's tree is the one that was found
-  pub counts : SoundAt c ws → (countIn ws ≡ n) × (tally (routeUsed ws) c ≡ n) × (tally (innerUsed c ws) c ≡ m)
+  pub counts : SoundAt c ws → (countIn ws ≡ n) × (tally (isUsed c ws Sort.Route) c ≡ n) × (tally (isUsed c ws Sort.Inner) c ≡ m)
   counts q =
       let f = sound-fine c ws q in
       let same = root-unique c ws (rootIn ws) (f .tree) (x .0) (f .root .holds) (x .1 .holds) in
@@ -165,7 +166,7 @@ module _ (c : ℕ) (ws : List ℕ) (n m : ℕ) (x : (t : Root ℕ Seat) × RootF
       let inners = ap (λ (t : Root ℕ Seat). length (innersUsed t)) same ∙ sym (x .3) in
       (f .count ∙ routes, sym (f .routeMarks) ∙ routes, sym (f .innerMarks) ∙ inners)
 
-  pub decides : Fit c ws → HeadFine c ws → countIn ws ≡ n → tally (routeUsed ws) c ≡ n → tally (innerUsed c ws) c ≡ m → ChangesFine c ws (standingIn ws)
+  pub decides : Fit c ws → HeadFine c ws → countIn ws ≡ n → tally (isUsed c ws Sort.Route) c ≡ n → tally (isUsed c ws Sort.Inner) c ≡ m → ChangesFine c ws (standingIn ws)
       → (r : Bool) → BackSays c ws (standingIn ws) n r → (r ≡ true) ↔ SoundAt c ws
   decides fit h p q i k r b =
       let l = rootRoutes (bareRoot (x .0)) in

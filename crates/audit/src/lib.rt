@@ -14,7 +14,8 @@ ghost use mathlib.Core.Logic.{_↔_};
 ghost use Rattle.model.specs.Ipv4.{Hop};
 ghost use Rattle.model.specs.State.{State};
 ghost use Rattle.pool.specs.Means.{Means};
-ghost use Rattle.search.specs.Fit.{Fit};
+ghost use Rattle.pool.specs.Fit.{Fit};
+use marks::Sort;
 use shape::RootAudit;
 
 // Whether the words are a sound pool of this capacity.
@@ -31,10 +32,10 @@ pub fn audit(pool: &[u32], capacity: usize) -> bool
     if pool::wide(pool[1]) != routes {
         return false;
     }
-    if shape::used_routes(pool, capacity) != routes {
+    if marks::used(pool, capacity, Sort::Route) != routes {
         return false;
     }
-    if shape::used_inners(pool, capacity) != inners {
+    if marks::used(pool, capacity, Sort::Inner) != inners {
         return false;
     }
     let standing = pool::wide(pool[4]);

@@ -20,8 +20,9 @@ use Rattle.pool.specs.Holds.{Seat, Seated, bare, bareRoot, HoldsRoot}
 use Rattle.write.specs.Writes.{writes, firstWrites, hangWrites, joinWrites, linkWrites, dropWrites, lastWrites, hopWrites}
 use Rattle.plan.specs.Plan.{PutRight, JoinsAt, HeldThere, TakenAt}
 use Rattle.plan.specs.Planned.{HeldRight, TakeRight}
-use Rattle.plan.specs.Free.{FreeRoute, FreeInner, RouteSpare, InnerSpare}
-use Rattle.search.specs.Fit.{Fit}
+use Rattle.marks.specs.Marks.{Spare, FreePlace}
+use Rattle.marks.specs.declared.Sort.{Sort}
+use Rattle.pool.specs.Fit.{Fit}
 use Rattle.edit.specs.Encodes.{Encodes, ToPut, ToTake}
 use Rattle.plan.specs.declared.plan.PutPlan.{PutPlan}
 use Rattle.plan.specs.declared.plan.PutPlan.the-variants as put
@@ -52,7 +53,7 @@ has-tree ws s e p q f is =
 -- ---- put in
 
 module _ (c : ℕ) (ws : List ℕ) (r : Route Hop) (s : State Hop) (p : ToPut c ws r s) where
-  in-pool : (i : ℕ) → FreeRoute c ws i → i < s .capacity
+  in-pool : (i : ℕ) → FreePlace c ws Sort.Route i → i < s .capacity
   in-pool i f = subst (λ (x : ℕ). i < x) (sym (p .capacityIs)) (f .inPool)
 
   plan-here : (plan : PutPlan) → PutRight c ws (r .prefix) plan → PutRight (s .capacity) ws (r .prefix) plan
@@ -61,23 +62,23 @@ module _ (c : ℕ) (ws : List ℕ) (r : Route Hop) (s : State Hop) (p : ToPut c 
   not-found : (t : Seated) → Stands ws s t → find (r .prefix) (routes (bare t)) ≡ none
   not-found t st = ap (find (r .prefix)) (st .table) ∙ p .absent
 
-  pub put-route-spare : RouteSpare c ws
-  put-route-spare = subst (λ (x : ℕ). RouteSpare x ws) (p .capacityIs) (route-spare ws s (p .encodes) (p .room))
+  pub put-route-spare : Spare c ws Sort.Route
+  put-route-spare = subst (λ (x : ℕ). Spare x ws Sort.Route) (p .capacityIs) (route-spare ws s (p .encodes) (p .room))
 
-  pub put-inner-spare : InnerSpare c ws
-  put-inner-spare = subst (λ (x : ℕ). InnerSpare x ws) (p .capacityIs) (inner-spare ws s (p .encodes) (p .room))
+  pub put-inner-spare : Spare c ws Sort.Inner
+  put-inner-spare = subst (λ (x : ℕ). Spare x ws Sort.Inner) (p .capacityIs) (inner-spare ws s (p .encodes) (p .room))
 
   pub put-count : Fit c ws → countIn ws ≤ 65535
   put-count u = omega (arith, u .0, p .encodes .countThere, p .room, p .capacityIs)
 
-  pub first-done : (zs : List ℕ) (i : ℕ) → FreeRoute c ws i → PutRight c ws (r .prefix) put.First → zs ≡ writes (firstWrites ws i r) ws → Encodes zs (withTrial s (insert r (s .routes)) (s .trial))
+  pub first-done : (zs : List ℕ) (i : ℕ) → FreePlace c ws Sort.Route i → PutRight c ws (r .prefix) put.First → zs ≡ writes (firstWrites ws i r) ws → Encodes zs (withTrial s (insert r (s .routes)) (s .trial))
   first-done zs i f h e = subst (λ (x : List ℕ). Encodes x (withTrial s (insert r (s .routes)) (s .trial))) (sym e) (go (p .encodes .tree) refl)
     where
       go : (t : Root ℕ Seat) → p .encodes .tree ≡ t → Encodes (writes (firstWrites ws i r) ws) (withTrial s (insert r (s .routes)) (s .trial))
       go none is = first-encodes ws s (p .encodes) (p .few) is i r (in-pool i f) (p .formed)
       go (some t) is = let st = stands ws s (p .encodes) t is in absurd (plan-here put.First h .exact t (st .held) (st .good))
 
-  pub hung-done : (zs : List ℕ) (i cell : ℕ) → FreeRoute c ws i → PutRight c ws (r .prefix) (put.Hang cell) → zs ≡ writes (hangWrites ws i r cell) ws → Encodes zs (withTrial s (insert r (s .routes)) (s .trial))
+  pub hung-done : (zs : List ℕ) (i cell : ℕ) → FreePlace c ws Sort.Route i → PutRight c ws (r .prefix) (put.Hang cell) → zs ≡ writes (hangWrites ws i r cell) ws → Encodes zs (withTrial s (insert r (s .routes)) (s .trial))
   hung-done zs i cell f h e = subst (λ (x : List ℕ). Encodes x (withTrial s (insert r (s .routes)) (s .trial))) (sym e) (go (p .encodes .tree) refl)
     where
       go : (t : Root ℕ Seat) → p .encodes .tree ≡ t → Encodes (writes (hangWrites ws i r cell) ws) (withTrial s (insert r (s .routes)) (s .trial))
@@ -94,11 +95,11 @@ module _ (c : ℕ) (ws : List ℕ) (r : Route Hop) (s : State Hop) (p : ToPut c 
   pub joins-low : (cell k : ℕ) → PutRight c ws (r .prefix) (put.Join cell k) → k < 32
   joins-low cell k h = let v = joins cell k h (p .encodes .tree) refl in part-apart 32 (r .prefix .address) (reached 32 (r .prefix .address) (bare (v .0))) k (v .2 .parts) (λ e. v .2 .new (sym e))
 
-  pub joined-done : (zs : List ℕ) (i j cell k : ℕ) → FreeRoute c ws i → FreeInner c ws j → PutRight c ws (r .prefix) (put.Join cell k) → zs ≡ writes (joinWrites ws c i j r k cell) ws
+  pub joined-done : (zs : List ℕ) (i j cell k : ℕ) → FreePlace c ws Sort.Route i → FreePlace c ws Sort.Inner j → PutRight c ws (r .prefix) (put.Join cell k) → zs ≡ writes (joinWrites ws c i j r k cell) ws
       → Encodes zs (withTrial s (insert r (s .routes)) (s .trial))
   joined-done zs i j cell k f g h e =
       let v = joins cell k h (p .encodes .tree) refl in
-      let g' : FreeInner (s .capacity) ws j = subst (λ (x : ℕ). FreeInner x ws j) (sym (p .capacityIs)) g in
+      let g' : FreePlace (s .capacity) ws Sort.Inner j = subst (λ (x : ℕ). FreePlace x ws Sort.Inner j) (sym (p .capacityIs)) g in
       subst (λ (x : List ℕ). Encodes x (withTrial s (insert r (s .routes)) (s .trial))) (sym (e ∙ ap (λ (x : ℕ). writes (joinWrites ws x i j r k cell) ws) (sym (p .capacityIs))))
       (join-encodes ws s (p .encodes) (p .few) (v .0) (v .1) i j cell k r (in-pool i f) (f .free) (g' .inPool) (g' .free) (v .2) (p .formed))
 

@@ -15,7 +15,8 @@ use Rattle.pool.specs.Layout.{rootIn, leftAt, rightAt}
 use Rattle.pool.specs.Holds.{Seat, Seated, bare, bareRoot, innerPlaces, Holds, HoldsRoot}
 use Rattle.pool.specs.Means.{Among, routesUsed, innersUsed}
 use Rattle.pool.proofs.Places.{route-count}
-use Rattle.plan.specs.Free.{RouteSpare, InnerSpare}
+use Rattle.marks.specs.Marks.{Spare}
+use Rattle.marks.specs.declared.Sort.{Sort}
 use Rattle.edit.specs.Encodes.{Encodes}
 
 -- ---- a list that has every place is long
@@ -50,11 +51,11 @@ inners-used c ws link (some t) h = omega (arith, inners-count t, leaves-inners (
 -- ---- a pool that is not full has a place of each kind
 
 module _ (ws : List ℕ) (s : State Hop) (e : Encodes ws s) (room : length (s .routes) < s .capacity) where
-  pub route-spare : RouteSpare (s .capacity) ws
+  pub route-spare : Spare (s .capacity) ws Sort.Route
   route-spare f =
       omega (arith, every-among (s .capacity) (routesUsed (e .tree)) (λ i l. e .routePlacesUsed i l (f i l)), route-count (e .tree), ap length (e .routesThere))
 
-  pub inner-spare : InnerSpare (s .capacity) ws
+  pub inner-spare : Spare (s .capacity) ws Sort.Inner
   inner-spare f =
       omega (
         arith,

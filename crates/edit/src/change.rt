@@ -3,13 +3,13 @@ ghost use Rattle.model.specs.Ipv4.{Hop};
 ghost use Rattle.model.specs.State.{State};
 ghost use Rattle.model.specs.Call.{withTrial};
 ghost use Rattle.route.specs.Means.{prefixOf, routeOf};
-ghost use Rattle.search.specs.Fit.{Fit};
+ghost use Rattle.pool.specs.Fit.{Fit};
 ghost use Rattle.edit.specs.Encodes.{Encodes, ToPut, ToTake};
+use marks::Sort;
+use marks::free;
 use plan::HeldAt;
 use plan::PutPlan;
 use plan::TakePlan;
-use plan::free_inner;
-use plan::free_route;
 use plan::held_at;
 use plan::plan_put;
 use plan::plan_take;
@@ -29,7 +29,7 @@ pub fn put_in(pool: &mut [u32], capacity: usize, route: Route)
     requires { ⌜ ((s : State Hop) × ToPut capacity (now pool) (routeOf route) s) ⌝ }
     ensures { λ _. ⌜ ((s : State Hop) → ToPut capacity (now (pool .entry)) (routeOf route) s → Encodes (now (pool .exit)) (withTrial s (insert (routeOf route) (s .routes)) (s .trial))) ⌝ }
 {
-    let place = free_route(pool, capacity);
+    let place = free(pool, capacity, Sort::Route);
     let prefix = route.prefix;
     match plan_put(pool, capacity, prefix) {
         PutPlan::First => {
@@ -39,7 +39,7 @@ pub fn put_in(pool: &mut [u32], capacity: usize, route: Route)
             put_hung(pool, place, route, cell);
         }
         PutPlan::Join(cell, index) => {
-            let inner = free_inner(pool, capacity);
+            let inner = free(pool, capacity, Sort::Inner);
             put_joined(pool, capacity, place, inner, route, cell, index);
         }
     }

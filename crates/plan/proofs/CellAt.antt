@@ -14,7 +14,7 @@ use Rattle.patricia.specs.Way.{Step, wentLeft, wentRight, plug}
 use Rattle.patricia.proofs.Zip.{Follows, NotPast}
 use Rattle.pool.specs.Layout.{joint, markAt}
 use Rattle.pool.specs.Holds.{Seat, Seated}
-use Rattle.search.specs.Fit.{Fit}
+use Rattle.pool.specs.Fit.{Fit}
 use Rattle.search.specs.Down.{Kept, Usable}
 use Rattle.plan.specs.Cells.{cellOf, cellAt}
 use Rattle.plan.specs.Steps.{WayUsable, CellRight, LevelRight}

@@ -10,7 +10,7 @@ use Rattle.patricia.specs.Obeys.{Shorter, LongestFirst}
 use Rattle.pool.specs.Layout.{seat, nextAt, prefixAt}
 use Rattle.pool.specs.Link.{toRoute}
 use Rattle.pool.specs.Holds.{Seat, InPlace, Chain}
-use Rattle.search.specs.Fit.{Fit}
+use Rattle.pool.specs.Fit.{Fit}
 use Rattle.search.specs.Chain.{HungRight}
 use Rattle.search.specs.declared.exact.Hung as hungs
 use Rattle.search.proofs.Chain.{chain-end}

@@ -16,7 +16,7 @@ use Rattle.pool.specs.Layout.{word, rootIn}
 use Rattle.pool.specs.Link.{toRoute}
 use Rattle.pool.specs.Holds.{Seat, Seated, bare, Chain, Holds}
 use Rattle.pool.specs.declared.link.Place.{Place}
-use Rattle.search.specs.Fit.{Fit}
+use Rattle.pool.specs.Fit.{Fit}
 use Rattle.search.specs.Down.{Ways}
 use Rattle.search.specs.declared.descent.Way.{Way}
 use Rattle.search.specs.declared.descent.End as end

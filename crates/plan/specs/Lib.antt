@@ -1,5 +1,4 @@
 pub mod Cells
 pub mod Plan
-pub mod Free
 pub mod Steps
 pub mod Planned

@@ -1,5 +1,5 @@
 ghost use Prim.Native.Nat.{_<_};
-ghost use Rattle.search.specs.Fit.{Fit};
+ghost use Rattle.pool.specs.Fit.{Fit};
 ghost use Rattle.plan.specs.Steps.{WayUsable, CellRight, LevelRight, ChainCell};
 use pool::Place;
 use route::Length;

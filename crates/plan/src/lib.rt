@@ -1,10 +1,7 @@
 // Where in a sound pool a route goes in or comes out, by reading only.
 mod cells;
-mod free;
 mod plan;
 
-pub use free::free_inner;
-pub use free::free_route;
 pub use plan::HeldAt;
 pub use plan::PutPlan;
 pub use plan::TakePlan;

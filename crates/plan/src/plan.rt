@@ -1,7 +1,7 @@
 ghost use Prim.Native.Nat.{_<_};
 ghost use lib.ListN.{length as count};
 ghost use Rattle.route.specs.Means.{prefixOf};
-ghost use Rattle.search.specs.Fit.{Fit};
+ghost use Rattle.pool.specs.Fit.{Fit};
 ghost use Rattle.plan.specs.Steps.{WayUsable};
 ghost use Rattle.plan.specs.Plan.{PutRight};
 ghost use Rattle.plan.specs.Planned.{PutInPool, HungFrom, HeldRight, LoneRight, TakeRight};

@@ -1,4 +1,5 @@
 pub mod Layout
+pub mod Fit
 pub mod Link
 pub mod Holds
 pub mod Means

@@ -1,4 +1,3 @@
-pub mod Fit
 pub mod Seen
 pub mod Down
 pub mod Chain

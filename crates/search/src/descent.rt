@@ -3,7 +3,7 @@ ghost use Prim.Native.Nat.{_<_};
 ghost use Rattle.bits.specs.Address.{bit};
 ghost use Rattle.patricia.specs.Way.{toward};
 ghost use Rattle.pool.specs.Layout.{leftAt, rightAt};
-ghost use Rattle.search.specs.Fit.{Fit};
+ghost use Rattle.pool.specs.Fit.{Fit};
 ghost use Rattle.search.specs.Seen.{SeenRight};
 ghost use Rattle.search.specs.Down.{Ways};
 use pool::Link;

@@ -1,7 +1,7 @@
 ghost use Prim.Native.Nat.{_<_};
 ghost use mathlib.Core.Path.{_≡_};
 ghost use Rattle.route.specs.Means.{prefixOf};
-ghost use Rattle.search.specs.Fit.{Fit};
+ghost use Rattle.pool.specs.Fit.{Fit};
 ghost use Rattle.search.specs.Chain.{HungRight};
 ghost use Rattle.search.specs.Find.{isAt, asked, SpotIn, Finds};
 use super::descent::End;

@@ -1,4 +1,3 @@
 pub mod Links
 pub mod Hanging
 pub mod Grown
-pub mod Tally

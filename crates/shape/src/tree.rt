@@ -1,6 +1,6 @@
 ghost use Prim.Native.Nat.{ℕ, _≤_};
 ghost use Rattle.pool.specs.Link.{toRoute};
-ghost use Rattle.search.specs.Fit.{Fit};
+ghost use Rattle.pool.specs.Fit.{Fit};
 ghost use Rattle.shape.specs.Tree.{TreeSays, JoinSays, RootSays};
 use super::chain::ChainAudit;
 use super::chain::audit_chain;

@@ -3,7 +3,7 @@ ghost use mathlib.Core.Bool.{true};
 ghost use mathlib.Core.Logic.{_↔_};
 ghost use Prim.Native.Nat.{_+_, _≤_, _<_};
 ghost use lib.ListN.{length};
-ghost use Rattle.search.specs.Fit.{Fit};
+ghost use Rattle.pool.specs.Fit.{Fit};
 ghost use Rattle.standing.specs.Changes.{HopFine, ChangeFine, ChangesFine, ThereSays, TakenSays, BackSays};
 
 // A change taken back: not possible, or so many routes are left.

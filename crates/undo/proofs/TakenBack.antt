@@ -19,7 +19,7 @@ use Rattle.model.proofs.Lawful.{there, absent}
 use Rattle.pool.specs.Layout.{word, slot, prefixAt, hopAt, standingIn, rules}
 use Rattle.pool.specs.Means.{Records, Recorded, TrialThere, Means}
 use Rattle.pool.proofs.Local.{recorded-length}
-use Rattle.search.specs.Fit.{Fit}
+use Rattle.pool.specs.Fit.{Fit}
 use Rattle.write.specs.Writes.{writes, headWrites}
 use Rattle.edit.specs.Encodes.{Encodes, ToPut, ToTake}
 use Rattle.edit.proofs.Encodes.{means-encodes}

@@ -1,7 +1,7 @@
 ghost use Rattle.model.specs.Ipv4.{Hop};
 ghost use Rattle.model.specs.State.{State};
 ghost use Rattle.model.specs.Call as call;
-ghost use Rattle.search.specs.Fit.{Fit};
+ghost use Rattle.pool.specs.Fit.{Fit};
 ghost use Rattle.edit.specs.Encodes.{Encodes};
 ghost use Rattle.apply.specs.Does.{Accepts, Accepted, Does};
 use route::Route;

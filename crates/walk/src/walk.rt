@@ -1,6 +1,6 @@
 ghost use Prim.Native.Nat.{_≤_, _<_};
 ghost use Rattle.route.specs.Means.{prefixOf};
-ghost use Rattle.search.specs.Fit.{Fit};
+ghost use Rattle.pool.specs.Fit.{Fit};
 ghost use Rattle.search.specs.Down.{AllUsable, Ways, EndsAt};
 ghost use Rattle.walk.specs.Walk.{Fronts, Firsts, RightSide, Rejoined, Goes, Nexts};
 use climb::Edge;

@@ -6,11 +6,12 @@ use borrow.Author.Tests.{not-true, not-false}
 use Rattle.model.proofs.Tests.{not-both}
 use Rattle.audit.specs.Head.{HeadFine}
 use Rattle.shape.specs.Tree.{RootSays}
-use Rattle.shape.specs.Marks.{routeUsed}
+use Rattle.marks.specs.Marks.{isUsed}
+use Rattle.marks.specs.declared.Sort.{Sort}
 use Rattle.standing.specs.Changes.{ChangesFine, BackSays}
 use Rattle.shape.specs.declared.tree.RootAudit.{RootAudit}
 use Rattle.shape.proofs.Hanging.{refused}
-use Rattle.shape.proofs.Tally.{tally-le}
+use Rattle.marks.proofs.Tally.{tally-le}
 use Rattle.audit.proofs.Sounding.{SoundAt, sound-fine, counts, decides}
 use borrow.Author.Needs.{needs}
 use Rattle.audit.proofs.audit.Statement.{statement}
@@ -52,17 +53,17 @@ wide-requires c κs = search needs
 returns-3 : tie.Need-returns-3
 returns-3 c = refused (λ s. c .if2 .taken (c .before .wide .ensures ∙ counts _ _ _ _ (root-says (c .before .before .before)) s .0))
 
-used-routes-requires : tie.Need-used-routes-requires
-used-routes-requires c κs = search needs
+used-requires : tie.Need-used-requires
+used-requires c κs = search needs
 
 returns-4 : tie.Need-returns-4
-returns-4 c = refused (λ s. c .if3 .taken (c .before .used-routes .ensures ∙ counts _ _ _ _ (root-says (c .before .before .before .before .before)) s .1))
+returns-4 c = refused (λ s. c .if3 .taken (c .before .used .ensures ∙ counts _ _ _ _ (root-says (c .before .before .before .before .before)) s .1))
 
-used-inners-requires : tie.Need-used-inners-requires
-used-inners-requires c κs = search needs
+used-requires-2 : tie.Need-used-requires-2
+used-requires-2 c κs = search needs
 
 returns-5 : tie.Need-returns-5
-returns-5 c = refused (λ s. c .if4 .taken (c .before .used-inners .ensures ∙ counts _ _ _ _ (root-says (c .before .before .before .before .before .before .before)) s .2))
+returns-5 c = refused (λ s. c .if4 .taken (c .before .used2 .ensures ∙ counts _ _ _ _ (root-says (c .before .before .before .before .before .before .before)) s .2))
 
 shared-slice-read-wide-2 : tie.Need-shared-slice-read-wide-2
 shared-slice-read-wide-2 c = search needs
@@ -84,7 +85,7 @@ can-take-back-requires c κs = (
   c .before .before .before .before .before .before .before .before .before .before .before .before .before .before .before .before .before .before .pre,
   (
     omega (arith, head-fine (c .before .before .before .before .before .before .before .before .before .before .before .before .before .before .before) .few, c .before .before .wide2 .ensures),
-    omega (arith, tally-le (routeUsed (c .before .before .before .before .before .before .before .before .before .before .before .before .before .before .before .before .before .before .args .pool .now)) (c .before .before .before .before .before .before .before .before .before .before .before .before .before .before .before .before .before .before .args .capacity), c .before .before .before .before .before .before .before .used-routes .ensures, c .before .before .before .before .before .before .if3 .left),
+    omega (arith, tally-le (isUsed (c .before .before .before .before .before .before .before .before .before .before .before .before .before .before .before .before .before .before .args .capacity) (c .before .before .before .before .before .before .before .before .before .before .before .before .before .before .before .before .before .before .args .pool .now) Sort.Route) (c .before .before .before .before .before .before .before .before .before .before .before .before .before .before .before .before .before .before .args .capacity), c .before .before .before .before .before .before .before .used .ensures, c .before .before .before .before .before .before .if3 .left),
   ),
 )
 
@@ -93,7 +94,7 @@ returns-7 c =
     let a = c .before .before .before .before .before .before .before .before .before .before .before .before .before .before .before .before .before .before .before .args in
     let same = c .before .before .before .wide2 .ensures in
     decides (a .capacity) (a .pool .now) _ _ (root-says (c .before .before .before .before .before .before .before .before .before .before .before .before)) (c .before .before .before .before .before .before .before .before .before .before .before .before .before .before .before .before .before .before .before .pre) (head-fine (c .before .before .before .before .before .before .before .before .before .before .before .before .before .before .before .before)) (sym (c .before .before .before .before .before .before .before .before .before .before .wide .ensures) ∙ c .before .before .before .before .before .before .before .before .before .if2 .left)
-    (sym (c .before .before .before .before .before .before .before .before .used-routes .ensures) ∙ c .before .before .before .before .before .before .before .if3 .left) (sym (c .before .before .before .before .before .before .used-inners .ensures) ∙ c .before .before .before .before .before .if4 .left)
+    (sym (c .before .before .before .before .before .before .before .before .used .ensures) ∙ c .before .before .before .before .before .before .before .if3 .left) (sym (c .before .before .before .before .before .before .used2 .ensures) ∙ c .before .before .before .before .before .if4 .left)
     (subst (ChangesFine (a .capacity) (a .pool .now)) same (c .before .before .changes-are-good .ensures .0 (not-false _ (c .before .if5 .left)))) (c .can-take-back .result)
     (subst (λ (n : ℕ). BackSays (a .capacity) (a .pool .now) n (c .before .before .before .before .before .before .before .before .before .before .before .before .before .routes .given .0 .0) (c .can-take-back .result)) same (c .can-take-back .ensures))
 
@@ -110,9 +111,9 @@ audit-spec =
     shared-slice-read-wide
     wide-requires
     returns-3
-    used-routes-requires
+    used-requires
     returns-4
-    used-inners-requires
+    used-requires-2
     returns-5
     shared-slice-read-wide-2
     wide-requires-2

@@ -7,8 +7,8 @@ use Rattle.edit.proofs.Changed.{put-route-spare, put-inner-spare, put-c
 use Rattle.edit.proofs.change.put_in.Statement.{statement}
 use Rattle.edit.proofs.change.put_in.Tie as tie
 
-free-route-requires : tie.Need-free-route-requires
-free-route-requires c κs = (c .before .before .pre .0, put-route-spare _ _ _ _ (c .before .before .pre .1 .1))
+free-requires : tie.Need-free-requires
+free-requires c κs = (c .before .before .pre .0, put-route-spare _ _ _ _ (c .before .before .pre .1 .1))
 
 plan-put-requires : tie.Need-plan-put-requires
 plan-put-requires c κs = search needs
@@ -25,20 +25,20 @@ enum-known-cell c = search needs
 put-hung-requires : tie.Need-put-hung-requires
 put-hung-requires c κs =
     let u = c .before .before .before .before .before .before .before .before .before .before .pre .0 in
-    let f = c .before .before .before .before .before .before .before .free-route .ensures in
+    let f = c .before .before .before .before .before .before .before .free .ensures in
     (omega (arith, u .1, f .inPool), omega (arith, u .0, f .inPool), put-count _ _ _ _ (c .before .before .before .before .before .before .before .before .before .before .pre .1 .1) u, subst (PutInPool _) (c .before .before .cell .given .1) (c .before .before .before .before .plan-put .ensures .1))
 
 enum-known-cell-2 : tie.Need-enum-known-cell-2
 enum-known-cell-2 c = search needs
 
-free-inner-requires : tie.Need-free-inner-requires
-free-inner-requires c κs = (c .before .before .before .before .before .before .before .before .before .before .pre .0, put-inner-spare _ _ _ _ (c .before .before .before .before .before .before .before .before .before .before .pre .1 .1))
+free-requires-2 : tie.Need-free-requires-2
+free-requires-2 c κs = (c .before .before .before .before .before .before .before .before .before .before .pre .0, put-inner-spare _ _ _ _ (c .before .before .before .before .before .before .before .before .before .before .pre .1 .1))
 
 put-joined-requires : tie.Need-put-joined-requires
 put-joined-requires c κs =
     let u = c .before .before .before .before .before .before .before .before .before .before .before .before .pre .0 in
-    let f = c .before .before .before .before .before .before .before .before .before .free-route .ensures in
-    let g = c .before .free-inner .ensures in
+    let f = c .before .before .before .before .before .before .before .before .before .free .ensures in
+    let g = c .before .free2 .ensures in
     let v = subst (PutInPool _) (c .before .before .before .before .cell2 .given .1) (c .before .before .before .before .before .before .plan-put .ensures .1) in
     let low = joins-low _ _ _ _ (c .before .before .before .before .before .before .before .before .before .before .before .before .pre .1 .1) _ _ (subst (PutRight _ _ _) (c .before .before .before .before .cell2 .given .1) (c .before .before .before .before .before .before .plan-put .ensures .0)) in
     ((omega (arith, u .1, f .inPool), omega (arith, u .0, f .inPool), put-count _ _ _ _ (c .before .before .before .before .before .before .before .before .before .before .before .before .pre .1 .1) u, v .0), (omega (arith, u .1, g .inPool), u .0, omega (arith, u .0, g .inPool), low))
@@ -47,32 +47,32 @@ same-length : tie.Need-same-length
 same-length c = search needs
 
 returns : tie.Need-returns
-returns c = λ s p. first-done _ _ _ s p _ _ (c .before .before .before .before .before .before .before .before .before .free-route .ensures) (subst (PutRight _ _ _) (c .before .before .before .before .enum-told .given .1) (c .before .before .before .before .before .before .plan-put .ensures .0)) (c .before .before .put-first .ensures)
+returns c = λ s p. first-done _ _ _ s p _ _ (c .before .before .before .before .before .before .before .before .before .free .ensures) (subst (PutRight _ _ _) (c .before .before .before .before .enum-told .given .1) (c .before .before .before .before .before .before .plan-put .ensures .0)) (c .before .before .put-first .ensures)
 
 same-length-2 : tie.Need-same-length-2
 same-length-2 c = search needs
 
 returns-2 : tie.Need-returns-2
-returns-2 c = λ s p. hung-done _ _ _ s p _ _ _ (c .before .before .before .before .before .before .before .before .before .before .free-route .ensures) (subst (PutRight _ _ _) (c .before .before .before .before .before .cell .given .1) (c .before .before .before .before .before .before .before .plan-put .ensures .0)) (c .before .before .put-hung .ensures)
+returns-2 c = λ s p. hung-done _ _ _ s p _ _ _ (c .before .before .before .before .before .before .before .before .before .before .free .ensures) (subst (PutRight _ _ _) (c .before .before .before .before .before .cell .given .1) (c .before .before .before .before .before .before .before .plan-put .ensures .0)) (c .before .before .put-hung .ensures)
 
 same-length-3 : tie.Need-same-length-3
 same-length-3 c = search needs
 
 returns-3 : tie.Need-returns-3
-returns-3 c = λ s p. joined-done _ _ _ s p _ _ _ _ _ (c .before .before .before .before .before .before .before .before .before .before .before .before .free-route .ensures) (c .before .before .before .before .free-inner .ensures) (subst (PutRight _ _ _) (c .before .before .before .before .before .before .before .cell2 .given .1) (c .before .before .before .before .before .before .before .before .before .plan-put .ensures .0)) (c .before .before .put-joined .ensures)
+returns-3 c = λ s p. joined-done _ _ _ s p _ _ _ _ _ (c .before .before .before .before .before .before .before .before .before .before .before .before .free .ensures) (c .before .before .before .before .free2 .ensures) (subst (PutRight _ _ _) (c .before .before .before .before .before .before .before .cell2 .given .1) (c .before .before .before .before .before .before .before .before .before .plan-put .ensures .0)) (c .before .before .put-joined .ensures)
 
 pub put-in-spec : {M : Type 1} → statement M
 put-in-spec =
     tie.close
     (tie.spec
-    free-route-requires
+    free-requires
     plan-put-requires
     enum-told
     put-first-requires
     enum-known-cell
     put-hung-requires
     enum-known-cell-2
-    free-inner-requires
+    free-requires-2
     put-joined-requires
     same-length
     returns

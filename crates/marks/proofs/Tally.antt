@@ -12,7 +12,7 @@ use lib.ListN.{length}
 use Rattle.bits.proofs.Cases.{eq-or-ne}
 use Rattle.model.proofs.Tests.{both, fails, not-both}
 use Rattle.pool.specs.Means.{Among}
-use Rattle.shape.specs.Marks.{tally}
+use Rattle.marks.specs.Marks.{tally}
 use Rattle.pool.proofs.Distinct.{Distinct}
 
 -- ---- the loop that counts

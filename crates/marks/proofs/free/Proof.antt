@@ -3,24 +3,24 @@ use mathlib.Core.Path.{sym, _∙_}
 use native.Mathlib.Omega.{arith}
 use borrow.Author.Needs.{needs}
 use borrow.Author.Count.{below-more}
-use Rattle.pool.specs.Layout.{kindAt}
-use Rattle.plan.proofs.free.free_route.Statement.{statement}
-use Rattle.plan.proofs.free.free_route.Tie as tie
+use Rattle.marks.specs.Marks.{markOf}
+use Rattle.marks.proofs.free.Statement.{statement}
+use Rattle.marks.proofs.free.Tie as tie
 
 abbrev Inv-loop : tie.InvT-loop
-Inv-loop pool capacity at₀ at = (at ≤ capacity) × ((k : ℕ) → k < at → 1 ≤ kindAt pool k)
+Inv-loop pool capacity sort at₀ at = (at ≤ capacity) × ((k : ℕ) → k < at → 1 ≤ markOf capacity pool sort k)
 
 abbrev μ-loop : tie.MeasureT-loop
-μ-loop pool capacity at₀ at = capacity - at
+μ-loop pool capacity sort at₀ at = capacity - at
 
 loop-holds : tie.Need-loop-holds Inv-loop μ-loop
 loop-holds c = (search needs, λ k l. absurd (omega arith))
 
-kind-at-requires : tie.Need-kind-at-requires Inv-loop μ-loop
-kind-at-requires c κs = search needs
+mark-of-requires : tie.Need-mark-of-requires Inv-loop μ-loop
+mark-of-requires c κs = search needs
 
 returns : tie.Need-returns Inv-loop μ-loop
-returns c = record { inPool = search needs; free = sym (c .before .kind-at .ensures) ∙ c .if1 .taken }
+returns c = record { inPool = search needs; free = sym (c .before .mark-of .ensures) ∙ c .if1 .taken }
 
 add-at : tie.Need-add-at Inv-loop μ-loop
 add-at c = search needs
@@ -29,19 +29,19 @@ loop-less : tie.Need-loop-less Inv-loop μ-loop
 loop-less c = search needs
 
 loop-again : tie.Need-loop-again Inv-loop μ-loop
-loop-again c = (search needs, below-more _ _ (c .before .before .before .loop .inv .1) (omega (arith, c .before .kind-at .ensures, c .if1 .left)))
+loop-again c = (search needs, below-more _ _ (c .before .before .before .loop .inv .1) (omega (arith, c .before .mark-of .ensures, c .if1 .left)))
 
 returns-2 : tie.Need-returns-2 Inv-loop μ-loop
 returns-2 c = absurd (c .before .before .before .pre .1 (λ k l. c .before .loop .inv .1 k (omega arith)))
 
-pub free-route-spec : {M : Type 1} → statement M
-free-route-spec =
+pub free-spec : {M : Type 1} → statement M
+free-spec =
     tie.close
     (tie.spec
     Inv-loop
     μ-loop
     loop-holds
-    kind-at-requires
+    mark-of-requires
     returns
     add-at
     loop-less
