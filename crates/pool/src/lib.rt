@@ -1,8 +1,8 @@
 // The lent words: where each thing stands, one reader and one writer for each, and what a sound pool means.
 mod layout;
 mod link;
-mod read;
-mod write;
+mod readers;
+mod writers;
 
 pub use layout::CHANGES;
 pub use layout::LIMIT;
@@ -15,14 +15,14 @@ pub use link::Place;
 pub use link::inner_link;
 pub use link::link_from;
 pub use link::route_link;
-pub use read::hop_at;
-pub use read::kind_at;
-pub use read::left_at;
-pub use read::mark_at;
-pub use read::next_at;
-pub use read::prefix_at;
-pub use read::right_at;
-pub use read::route_at;
-pub use read::wide;
-pub use write::write_hop;
-pub use write::write_prefix;
+pub use readers::hop_at;
+pub use readers::kind_at;
+pub use readers::left_at;
+pub use readers::mark_at;
+pub use readers::next_at;
+pub use readers::prefix_at;
+pub use readers::right_at;
+pub use readers::route_at;
+pub use readers::wide;
+pub use writers::write_hop;
+pub use writers::write_prefix;

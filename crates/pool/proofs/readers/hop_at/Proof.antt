@@ -1,7 +1,7 @@
 use Rattle.pool.proofs.Words.{hop-direct, hop-via, hop-reject}
 use borrow.Author.Needs.{needs}
-use Rattle.pool.proofs.read.hop_at.Statement.{statement}
-use Rattle.pool.proofs.read.hop_at.Tie as tie
+use Rattle.pool.proofs.readers.hop_at.Statement.{statement}
+use Rattle.pool.proofs.readers.hop_at.Tie as tie
 
 mul-kind : tie.Need-mul-kind
 mul-kind c = search needs

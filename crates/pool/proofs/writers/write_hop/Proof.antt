@@ -5,8 +5,8 @@ use Rattle.route.specs.Means.{hopOf}
 use Rattle.route.specs.declared.hop.Hop.{Hop}
 use Rattle.pool.specs.Write.{withHop}
 use borrow.Author.Needs.{needs}
-use Rattle.pool.proofs.write.write_hop.Statement.{statement}
-use Rattle.pool.proofs.write.write_hop.Tie as tie
+use Rattle.pool.proofs.writers.write_hop.Statement.{statement}
+use Rattle.pool.proofs.writers.write_hop.Tie as tie
 
 enum-known-hop : tie.Need-enum-known-hop
 enum-known-hop c = search needs

@@ -46,7 +46,7 @@ pub fn prefix_at(pool: &[u32], at: usize) -> Prefix
 
 // The route in a place.
 pub fn route_at(pool: &[u32], place: Place) -> Route
-    requires { ⌜ layout.seat (place .0) + 5 < length (now pool) ⌝ }
+    requires { ⌜ layout.seat (place .0) + 4 < length (now pool) ⌝ }
     requires { ⌜ place .0 ≤ 4294967295 ⌝ }
     ensures { λ r. ⌜ routeOf r ≡ layout.routeAt (now (pool .entry)) (place .0) ⌝ }
 {

@@ -2,8 +2,8 @@ use Prim.Native.Nat.{ℕ}
 use mathlib.Core.Path.{ap}
 use lib.ListN.{getD}
 use borrow.Author.Needs.{needs}
-use Rattle.pool.proofs.read.kind_at.Statement.{statement}
-use Rattle.pool.proofs.read.kind_at.Tie as tie
+use Rattle.pool.proofs.readers.kind_at.Statement.{statement}
+use Rattle.pool.proofs.readers.kind_at.Tie as tie
 
 seat-requires : tie.Need-seat-requires
 seat-requires c κs = search needs

@@ -2,8 +2,8 @@ use Prim.Native.Nat.{ℕ}
 use mathlib.Core.Path.{ap}
 use lib.ListN.{getD}
 use borrow.Author.Needs.{needs}
-use Rattle.pool.proofs.read.mark_at.Statement.{statement}
-use Rattle.pool.proofs.read.mark_at.Tie as tie
+use Rattle.pool.proofs.readers.mark_at.Statement.{statement}
+use Rattle.pool.proofs.readers.mark_at.Tie as tie
 
 joint-requires : tie.Need-joint-requires
 joint-requires c κs = search needs

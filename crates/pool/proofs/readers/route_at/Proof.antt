@@ -2,8 +2,8 @@ use Prim.Native.Nat.{ℕ, _+_}
 use mathlib.Core.Path.{ap, _∙_}
 use Rattle.pool.specs.Layout.{prefixAt, hopAt}
 use borrow.Author.Needs.{needs}
-use Rattle.pool.proofs.read.route_at.Statement.{statement}
-use Rattle.pool.proofs.read.route_at.Tie as tie
+use Rattle.pool.proofs.readers.route_at.Statement.{statement}
+use Rattle.pool.proofs.readers.route_at.Tie as tie
 
 seat-requires : tie.Need-seat-requires
 seat-requires c κs = search needs
