@@ -3,8 +3,10 @@
 //!     fuzz SECONDS SEED NOTE   rounds from SEED on; the seed of each round is written to the file NOTE, for a round that
 //!                              does not come back
 //!     fuzz --seed SEED         one round alone
+//!     fuzz --named             the damaged pools that have a name
 mod calls;
 mod damage;
+mod hostile;
 mod hurt;
 mod language;
 mod model;
@@ -172,7 +174,8 @@ fn main() -> ExitCode {
     let went = match (number(0), number(1), words.get(2)) {
         (Some(seconds), Some(seed), Some(note)) => File::create(note).and_then(|note| go_on(seconds, seed, &note)),
         (None, Some(seed), None) => Ok(one_round(seed)),
-        _ => Err(std::io::Error::other("usage: fuzz SECONDS SEED NOTE, or fuzz --seed SEED")),
+        (None, None, None) if words == ["--named"] => Ok(hostile::all_keep()),
+        _ => Err(std::io::Error::other("usage: fuzz SECONDS SEED NOTE, fuzz --seed SEED or fuzz --named")),
     };
     match went {
         Ok(true) => ExitCode::SUCCESS,

@@ -63,6 +63,13 @@ impl Pool {
         Pool { buffer, lent: LENT, complaint: RefCell::new(None) }
     }
 
+    /// These words, and behind them what no call has written.
+    pub fn of(words: &[u32]) -> Pool {
+        let mut pool = Pool { buffer: vec![UNWRITTEN; LENT + BEHIND], ..Pool::new() };
+        pool.buffer[..words.len()].copy_from_slice(words);
+        pool
+    }
+
     /// The same words, with only so many of them lent.
     pub fn lending(&self, lent: usize) -> Pool {
         Pool { lent, ..self.clone() }
