@@ -1,18 +1,6 @@
+use numeral::Fault;
 use route::Prefix;
 use route::Route;
-
-// What is wrong with a line.
-pub enum Fault {
-    UnknownCommand,
-    BadAddress,
-    BadNumber,
-    BadPrefix,
-    BadHop,
-    TooFewWords,
-    TooManyWords,
-    LineTooLong,
-    OutsideBuffer,
-}
 
 // What a line asks for. A blank line and a comment ask for nothing.
 pub enum Command {

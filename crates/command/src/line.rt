@@ -1,23 +1,23 @@
 use super::asked::Command;
-use super::asked::Fault;
-use super::number::Taken;
-use super::number::take_address;
-use super::number::take_number;
 use super::route_words::TakenPrefix;
 use super::route_words::TakenRoute;
 use super::route_words::take_prefix;
 use super::route_words::take_route;
-use super::word::after;
-use super::word::uncommented;
-use super::word::word;
 use check::same;
+use numeral::Fault;
+use numeral::Taken;
+use numeral::after;
+use numeral::take_address;
+use numeral::take_number;
+use numeral::uncommented;
+use numeral::word_at;
 
 // A command whose last word was read: another word is one too many.
 fn last(line: &[u8], end: usize, command: Command) -> Command {
     if let Command::Wrong(_) = command {
         return command;
     }
-    if word(line, end).len() == 0 {
+    if word_at(line, end).len() == 0 {
         command
     } else {
         Command::Wrong(Fault::TooManyWords)
@@ -161,7 +161,7 @@ fn with_addresses(verb: &[u8], line: &[u8], at: usize) -> Command {
 // grammar stated in a contract would be this code again. The second program, written apart, is held to it.
 pub fn parse(text: &[u8]) -> Command {
     let line = uncommented(text);
-    let verb = word(line, 0);
+    let verb = word_at(line, 0);
     if verb.len() == 0 {
         return Command::Nothing;
     }

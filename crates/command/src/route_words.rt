@@ -1,14 +1,14 @@
 // The words of a prefix, of a hop and of a route.
-use super::asked::Fault;
-use super::number::Number;
-use super::number::Taken;
-use super::number::address;
-use super::number::decimal;
-use super::number::take_address;
-use super::number::take_number;
-use super::word::after;
-use super::word::word;
 use check::same;
+use numeral::Fault;
+use numeral::Number;
+use numeral::Taken;
+use numeral::address;
+use numeral::after;
+use numeral::decimal;
+use numeral::take_address;
+use numeral::take_number;
+use numeral::word_at;
 use route::Hop;
 use route::Length;
 use route::Masked;
@@ -59,7 +59,7 @@ fn with_length(text: &[u8], slash: usize, next: usize) -> TakenPrefix {
 
 // An address, and behind it the word mask and the mask.
 fn with_mask(line: &[u8], text: &[u8], next: usize) -> TakenPrefix {
-    if !same(word(line, next), b"mask") {
+    if !same(word_at(line, next), b"mask") {
         return TakenPrefix::Wrong(Fault::BadPrefix);
     }
     let Number::Value(bits) = address(text) else {
@@ -72,7 +72,7 @@ fn with_mask(line: &[u8], text: &[u8], next: usize) -> TakenPrefix {
 }
 
 pub(crate) fn take_prefix(line: &[u8], from: usize) -> TakenPrefix {
-    let text = word(line, from);
+    let text = word_at(line, from);
     let next = after(line, from);
     if text.len() == 0 {
         return TakenPrefix::Wrong(Fault::TooFewWords);
@@ -103,7 +103,7 @@ fn via(line: &[u8], from: usize) -> TakenHop {
 }
 
 fn take_hop(line: &[u8], from: usize) -> TakenHop {
-    let kind = word(line, from);
+    let kind = word_at(line, from);
     let next = after(line, from);
     if kind.len() == 0 {
         return TakenHop::Wrong(Fault::TooFewWords);

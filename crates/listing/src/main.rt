@@ -2,5 +2,5 @@
 fn main() {
     let mut words = [0u32; 2200];
     session::run(&mut words, false);
-    let _ = session::list(&words);
+    let _ = reply::list(&words);
 }

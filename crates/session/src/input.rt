@@ -1,8 +1,8 @@
-use super::change::Words;
-use super::change::change;
-use super::show::answer;
+ghost use Rattle.session.specs.Obeyed.{Obeyed};
 use command::Command;
-use command::Fault;
+use numeral::Fault;
+use perform::Changed;
+use reply::Words;
 
 // Room for the longest line, 200 bytes, and for a carriage return behind it.
 type Line = [u8; 201];
@@ -47,18 +47,31 @@ fn command_of(line: &[u8], length: usize) -> Command {
     command::parse(&line[0..length])
 }
 
+// The answer to a command, once what it changes is changed.
+fn answer(words: &Words, command: Command, changed: Changed, line: u64) {
+    match changed {
+        Changed::Number(n) => reply::number_line(n),
+        Changed::Outside => reply::wrong(line, Fault::OutsideBuffer),
+        Changed::Nothing => reply::asked(words, command, line),
+    }
+}
+
 // A whole line: it is done, and answered if answers are wanted.
-fn obey(words: &mut Words, line: &Line, at: Input, answers: bool) {
+fn obey(words: &mut Words, line: &Line, at: Input, answers: bool)
+    ensures { λ _. ⌜ Obeyed (now (words .entry)) (now (words .exit)) ⌝ }
+{
     let length = trimmed(line, at.length);
     let command = command_of(line, length);
-    let changed = change(words, command);
+    let changed = perform::change(words, command);
     if answers {
         answer(words, command, changed, at.number);
     }
 }
 
 // One byte more of the input.
-fn take(words: &mut Words, line: &mut Line, at: Input, byte: u8, answers: bool) -> Input {
+fn take(words: &mut Words, line: &mut Line, at: Input, byte: u8, answers: bool) -> Input
+    ensures { λ _. ⌜ Obeyed (now (words .entry)) (now (words .exit)) ⌝ }
+{
     if byte == b'\n' {
         obey(words, line, at, answers);
         return Input {
@@ -75,13 +88,9 @@ fn take(words: &mut Words, line: &mut Line, at: Input, byte: u8, answers: bool) 
 }
 
 // A block of the input.
-fn take_all(
-    words: &mut Words,
-    line: &mut Line,
-    start: Input,
-    block: &[u8],
-    answers: bool,
-) -> Input {
+fn take_all(words: &mut Words, line: &mut Line, start: Input, block: &[u8], answers: bool) -> Input
+    ensures { λ _. ⌜ Obeyed (now (words .entry)) (now (words .exit)) ⌝ }
+{
     let mut at = start;
     let mut i = 0;
     while i < block.len() {
@@ -92,7 +101,9 @@ fn take_all(
 }
 
 // One read. At the end of the input, or where it fails, the input is no longer open.
-fn read_some(words: &mut Words, line: &mut Line, at: Input, answers: bool) -> Input {
+fn read_some(words: &mut Words, line: &mut Line, at: Input, answers: bool) -> Input
+    ensures { λ _. ⌜ Obeyed (now (words .entry)) (now (words .exit)) ⌝ }
+{
     let mut block = [0u8; 512];
     let got = libc::read(0, &mut block);
     if got <= 0 {
@@ -107,7 +118,9 @@ fn read_some(words: &mut Words, line: &mut Line, at: Input, answers: bool) -> In
 }
 
 // A proved loop has to end, and nothing says that the input does: the turns are counted down from a number that no run uses up.
-fn read_all(words: &mut Words, line: &mut Line, answers: bool) -> Input {
+fn read_all(words: &mut Words, line: &mut Line, answers: bool) -> Input
+    ensures { λ _. ⌜ Obeyed (now (words .entry)) (now (words .exit)) ⌝ }
+{
     let mut at = Input {
         length: 0,
         number: 1,
@@ -121,9 +134,11 @@ fn read_all(words: &mut Words, line: &mut Line, answers: bool) -> Input {
     at
 }
 
-// Every command of standard input, one a line. A last line without a newline counts. It has no promise: what it does to the
-// words is what the commands ask for, `poke` any word among them, and no contract can speak of what is read or written.
-pub fn run(words: &mut Words, answers: bool) {
+// Every command of standard input, one a line. A last line without a newline counts. Which commands they are no contract can
+// say, since none can speak of what is read.
+pub fn run(words: &mut Words, answers: bool)
+    ensures { λ _. ⌜ Obeyed (now (words .entry)) (now (words .exit)) ⌝ }
+{
     let mut line = [0u8; 201];
     let at = read_all(words, &mut line, answers);
     if 0 < at.length {

@@ -1,11 +1,5 @@
 // A run of commands from standard input over one pool, with or without their answers on standard output. Two programs stand
 // on it, which differ in what they write and in nothing else.
-mod change;
 mod input;
-mod routes;
-mod show;
-mod text;
 
-pub use change::Words;
 pub use input::run;
-pub use routes::list;

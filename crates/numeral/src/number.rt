@@ -1,0 +1,122 @@
+ghost use mathlib.Core.Path.{_≡_};
+ghost use Rattle.numeral.specs.Decimal.{ReadAs};
+use super::word::after;
+use super::word::word_at;
+use super::wrong::Fault;
+
+// A number that was read, or none.
+pub enum Number {
+    Value(u32),
+    Bad,
+}
+
+// A number and the place behind it in the line, or what is wrong.
+pub enum Taken {
+    Value(u32, usize),
+    Wrong(Fault),
+}
+
+// An address as far as it was read, and where its last octet ends.
+enum Octets {
+    Value(u32, usize),
+    Bad,
+}
+
+fn wide(b: u8) -> u64
+    ensures { λ r. ⌜ r ≡ b ⌝ }
+{
+    b as u64
+}
+
+// A decimal number. It is tested at each digit, so that a long one can't wrap into the range.
+pub fn decimal(s: &[u8]) -> Number
+    ensures { λ r. ⌜ ReadAs (now (s .entry)) r ⌝ }
+{
+    if s.len() == 0 {
+        return Number::Bad;
+    }
+    let mut value: u64 = 0;
+    let mut i = 0;
+    while i < s.len() {
+        let b = s[i];
+        if b < b'0' {
+            return Number::Bad;
+        }
+        if b'9' < b {
+            return Number::Bad;
+        }
+        value = value * 10 + wide(b - b'0');
+        if 4294967295 < value {
+            return Number::Bad;
+        }
+        i += 1;
+    }
+    Number::Value(value as u32)
+}
+
+// One octet more, from a place up to the next dot or the end.
+fn octet(s: &[u8], from: usize, so_far: u32) -> Octets {
+    if s.len() < from {
+        return Octets::Bad;
+    }
+    let end = bytes::scan::find(s, from, s.len(), b'.');
+    let Number::Value(n) = decimal(&s[from..end]) else {
+        return Octets::Bad;
+    };
+    if 255 < n {
+        return Octets::Bad;
+    }
+    Octets::Value((so_far << 8) | n, end)
+}
+
+// One octet more, behind the dot that must stand at a place.
+fn next_octet(s: &[u8], dot: usize, so_far: u32) -> Octets {
+    if s.len() <= dot {
+        return Octets::Bad;
+    }
+    octet(s, dot + 1, so_far)
+}
+
+// Four octets with dots between them, and nothing behind.
+pub fn address(s: &[u8]) -> Number {
+    let Octets::Value(a, i) = octet(s, 0, 0) else {
+        return Number::Bad;
+    };
+    let Octets::Value(b, j) = next_octet(s, i, a) else {
+        return Number::Bad;
+    };
+    let Octets::Value(c, k) = next_octet(s, j, b) else {
+        return Number::Bad;
+    };
+    let Octets::Value(d, end) = next_octet(s, k, c) else {
+        return Number::Bad;
+    };
+    if end < s.len() {
+        return Number::Bad;
+    }
+    Number::Value(d)
+}
+
+// The next word as a number.
+pub fn take_number(line: &[u8], from: usize) -> Taken {
+    let text = word_at(line, from);
+    if text.len() == 0 {
+        return Taken::Wrong(Fault::TooFewWords);
+    }
+    match decimal(text) {
+        Number::Value(n) => Taken::Value(n, after(line, from)),
+        Number::Bad => Taken::Wrong(Fault::BadNumber),
+    }
+}
+
+// The next word as an address.
+pub fn take_address(line: &[u8], from: usize) -> Taken {
+    let text = word_at(line, from);
+    if text.len() == 0 {
+        return Taken::Wrong(Fault::TooFewWords);
+    }
+    match address(text) {
+        Number::Value(n) => Taken::Value(n, after(line, from)),
+        Number::Bad => Taken::Wrong(Fault::BadAddress),
+    }
+}

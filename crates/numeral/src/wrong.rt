@@ -1,0 +1,12 @@
+// What is wrong with a line.
+pub enum Fault {
+    UnknownCommand,
+    BadAddress,
+    BadNumber,
+    BadPrefix,
+    BadHop,
+    TooFewWords,
+    TooManyWords,
+    LineTooLong,
+    OutsideBuffer,
+}

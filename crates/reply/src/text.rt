@@ -1,0 +1,61 @@
+// Numbers, addresses and routes as text on standard output.
+use route::Hop;
+use route::Prefix;
+use route::Route;
+
+pub(crate) fn text(bytes: &[u8]) {
+    io::write_all(1, bytes);
+}
+
+pub(crate) fn byte(b: u8) {
+    text(&[b]);
+}
+
+pub(crate) fn number(n: u32) {
+    io::print_decimal(1, n as u64);
+}
+
+// A number alone on its line.
+pub fn number_line(n: u32) {
+    number(n);
+    byte(b'\n');
+}
+
+fn address(a: u32) {
+    number(a >> 24);
+    byte(b'.');
+    number((a >> 16) & 255);
+    byte(b'.');
+    number((a >> 8) & 255);
+    byte(b'.');
+    number(a & 255);
+}
+
+fn prefix(p: Prefix) {
+    address(p.address);
+    byte(b'/');
+    number(p.length.0);
+}
+
+fn hop(h: Hop) {
+    match h {
+        Hop::Direct(port) => {
+            text(b" direct ");
+            number(port.0);
+        }
+        Hop::Via(port, gateway) => {
+            text(b" via ");
+            number(port.0);
+            byte(b' ');
+            address(gateway);
+        }
+        Hop::Reject => text(b" reject"),
+    }
+}
+
+pub(crate) fn route_line(r: Route) {
+    let end = r.hop;
+    prefix(r.prefix);
+    hop(end);
+    byte(b'\n');
+}
