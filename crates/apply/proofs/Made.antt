@@ -30,7 +30,7 @@ use Rattle.search.proofs.Spots.{means-spotted}
 use Rattle.edit.specs.Encodes.{Encodes, ToPut, ToTake}
 use Rattle.edit.proofs.Encodes.{means-encodes, encodes-means}
 use Rattle.edit.proofs.Stands.{stands}
-use Rattle.write.specs.Writes.{writes, recordWrites, headWrites}
+use Rattle.rows.specs.Writes.{writes, recordWrites, headWrites}
 use Rattle.edit.proofs.Trials.{Says, says-added, says-deleted, says-changed, record-encodes, open-encodes, close-encodes}
 use Rattle.apply.specs.Does.{Accepts}
 use Rattle.apply.specs.Noted.{Noted}

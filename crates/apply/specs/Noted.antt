@@ -9,7 +9,7 @@ use Rattle.model.specs.Ipv4.{Hop}
 use Rattle.model.specs.State.{State}
 use Rattle.pool.specs.Layout.{trialIn, standingIn}
 use Rattle.pool.specs.Means.{Means}
-use Rattle.write.specs.Writes.{writes, recordWrites}
+use Rattle.rows.specs.Writes.{writes, recordWrites}
 
 -- "In a trial each accepted add, delete and hop change is recorded": without one no word is written.
 pub record Noted (c action : ℕ) (p : Prefix) (old new : Hop) (ws zs : List ℕ) : Type 0 where

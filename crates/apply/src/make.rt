@@ -30,7 +30,7 @@ fn note(pool: &mut [u32], capacity: usize, action: u32, prefix: Prefix, old: Hop
     ensures { λ _. ⌜ Noted capacity action (prefixOf prefix) (hopOf old) (hopOf new) (now (pool .entry)) (now (pool .exit)) ⌝ }
 {
     if pool[3] == 1 {
-        write::record_change(pool, capacity, action, prefix, old, new);
+        trial::record_change(pool, capacity, action, prefix, old, new);
     }
 }
 
@@ -76,7 +76,7 @@ pub fn open(pool: &mut [u32], capacity: usize)
     requires { ⌜ Accepted capacity call.openTrial (now pool) ⌝ }
     ensures { λ _. ⌜ Does capacity call.openTrial (now (pool .entry)) (now (pool .exit)) ⌝ }
 {
-    write::write_head(pool, 1, 0);
+    trial::write_head(pool, 1, 0);
 }
 
 // A trial kept: the routes stay, and nothing can be taken back any more.
@@ -85,5 +85,5 @@ pub fn keep(pool: &mut [u32], capacity: usize)
     requires { ⌜ Accepted capacity call.keep (now pool) ⌝ }
     ensures { λ _. ⌜ Does capacity call.keep (now (pool .entry)) (now (pool .exit)) ⌝ }
 {
-    write::write_head(pool, 0, 0);
+    trial::write_head(pool, 0, 0);
 }

@@ -1,7 +1,6 @@
 // A line of text taken as a command, and nothing done about it.
 mod asked;
 mod line;
-mod route_words;
 
 pub use asked::Command;
 pub use line::parse;

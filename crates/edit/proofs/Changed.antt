@@ -17,7 +17,7 @@ use Rattle.patricia.proofs.Find.{reached}
 use Rattle.pool.specs.Layout.{rootIn, countIn}
 use Rattle.pool.specs.declared.link.Place.{Place}
 use Rattle.pool.specs.Holds.{Seat, Seated, bare, bareRoot, HoldsRoot}
-use Rattle.write.specs.Writes.{writes, firstWrites, hangWrites, joinWrites, linkWrites, dropWrites, lastWrites, hopWrites}
+use Rattle.rows.specs.Writes.{writes, firstWrites, hangWrites, joinWrites, linkWrites, dropWrites, lastWrites, hopWrites}
 use Rattle.plan.specs.Plan.{PutRight, JoinsAt, HeldThere, TakenAt}
 use Rattle.plan.specs.Planned.{HeldRight, TakeRight}
 use Rattle.marks.specs.Marks.{Spare, FreePlace}

@@ -25,14 +25,14 @@ use Rattle.pool.specs.Means.{Among}
 use Rattle.pool.proofs.Distinct.{Distinct}
 use Rattle.pool.proofs.Frame.{RouteSame, InnerSame, holds-frame, among-append, append-among, routes-in-pool, inners-in-pool}
 use Rattle.plan.specs.Cells.{cellOf, placeOf, sibling, siblingLink}
-use Rattle.write.specs.Writes.{writes, lastWrites, dropWrites}
+use Rattle.rows.specs.Writes.{writes, lastWrites, dropWrites}
 use Rattle.search.proofs.Bare.{bareWay, bare-plug, bare-follows}
 use Rattle.plan.proofs.Way.{HoldsWay, way-plug, plug-way, wayRoutes, wayInners, routes-plug, plug-routes, inners-plug, plug-inners, InnerBut, inner-whole, way-frame}
 use Rattle.edit.proofs.Apart.{Asunder, asunder, routes-apart, inners-apart}
 use Rattle.plan.proofs.Chains.{route-whole}
 use Rattle.edit.proofs.Join.{cell-owner}
 use Rattle.edit.proofs.Rehang.{cell-range}
-use Rattle.write.proofs.Writes.{word-off, word-on}
+use Rattle.rows.proofs.Writes.{word-off, word-on}
 use Rattle.edit.proofs.Spared.{Clear, way-cell, cell-clear, route-spared, inner-spared, aside}
 use Rattle.edit.proofs.Stands.{Stands}
 use Rattle.edit.specs.Encodes.{Encodes}

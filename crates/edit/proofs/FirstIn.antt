@@ -19,8 +19,8 @@ use Rattle.pool.specs.Layout.{word, seat, joint, kindAt, markAt}
 use Rattle.pool.specs.Link.{toRoute}
 use Rattle.pool.specs.Holds.{Seat, bareRoot}
 use Rattle.pool.specs.Means.{Among, routesUsed, innersUsed}
-use Rattle.write.specs.Writes.{writes, routeWrites, firstWrites}
-use Rattle.write.proofs.Writes.{Off, off-append, word-off, word-on, on-right}
+use Rattle.rows.specs.Writes.{writes, routeWrites, firstWrites}
+use Rattle.rows.proofs.Writes.{Off, off-append, word-off, word-on, on-right}
 use Rattle.edit.proofs.Spared.{OffSeat, seats-apart, off-route, aside}
 use Rattle.edit.proofs.Stands.{entryAt, route-written, next-written}
 use Rattle.edit.specs.Encodes.{Encodes}
@@ -41,7 +41,7 @@ module _ (ws : List ℕ) (s : State Hop) (e : Encodes ws s) (few : length (chang
   first-encodes =
       let zs = writes (firstWrites ws i r) ws in
       let a = r .prefix .address in
-      let written : (x v : ℕ) → x < length ws → (h : Rattle.write.proofs.Writes.On x v ((2, toRoute i) ∷ (1, word ws 1 + 1) ∷ [])) → word zs x ≡ v =
+      let written : (x v : ℕ) → x < length ws → (h : Rattle.rows.proofs.Writes.On x v ((2, toRoute i) ∷ (1, word ws 1 + 1) ∷ [])) → word zs x ≡ v =
       λ x v f h. word-on x v (firstWrites ws i r) ws f (on-right x v (routeWrites i r 0) ((2, toRoute i) ∷ (1, word ws 1 + 1) ∷ []) h) in
       encodes-edit ws zs s (insert r (s .routes)) (some (leaf a (entryAt i r ∷ []))) e few
       (aside ws (firstWrites ws i r) (s .capacity) (off 0 (inl (omega arith)) (omega arith) (omega arith)) (off 3 (inl (omega arith)) (omega arith) (omega arith))

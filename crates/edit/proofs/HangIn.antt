@@ -29,13 +29,13 @@ use Rattle.pool.specs.Means.{Among}
 use Rattle.pool.proofs.Distinct.{Distinct}
 use Rattle.pool.proofs.Frame.{among-append, append-among}
 use Rattle.plan.specs.Cells.{cellOf, endCell, Longer}
-use Rattle.write.specs.Writes.{writes, routeWrites, hangWrites}
+use Rattle.rows.specs.Writes.{writes, routeWrites, hangWrites}
 use Rattle.plan.specs.Plan.{HangsAt}
 use Rattle.search.proofs.Bare.{bareWay, bare-plug, bare-follows}
 use Rattle.plan.proofs.Way.{plug-way, wayRoutes, routes-plug, plug-routes, inners-plug, plug-inners}
 use Rattle.plan.proofs.Chains.{places-append, chain-split}
 use Rattle.edit.proofs.Rehang.{Rehung, leaf-chain, cell-cases, cell-range, rest-stays, rehung-holds}
-use Rattle.write.proofs.Writes.{Off, off-append, word-on, on-right}
+use Rattle.rows.proofs.Writes.{Off, off-append, word-on, on-right}
 use Rattle.edit.proofs.Spared.{Clear, OffSeat, off-route}
 use Rattle.edit.proofs.Touch.{leaf-cell, route-touch, inner-touch, aside-touch, rehung-touch}
 use Rattle.edit.proofs.Stands.{some-there, entryAt, free-new, route-written, next-written, Stands}

@@ -30,7 +30,7 @@ use Rattle.pool.specs.Means.{Among}
 use Rattle.pool.proofs.Distinct.{Distinct}
 use Rattle.pool.proofs.Frame.{RouteSame, among-append}
 use Rattle.plan.specs.Cells.{cellOf}
-use Rattle.write.specs.Writes.{writes, routeWrites, innerJoin, joinWrites}
+use Rattle.rows.specs.Writes.{writes, routeWrites, innerJoin, joinWrites}
 use Rattle.plan.specs.Plan.{JoinsAt}
 use Rattle.pool.proofs.Places.{inner-used}
 use Rattle.search.proofs.Bare.{bareWay, bare-plug, bare-follows}
@@ -38,7 +38,7 @@ use Rattle.plan.proofs.Way.{plug-way, wayRoutes, wayInners, routes-plug, plug-r
 use Rattle.plan.proofs.Chains.{route-whole}
 use Rattle.edit.proofs.Join.{Stays, cell-owner, join-holds}
 use Rattle.edit.proofs.Rehang.{cell-range}
-use Rattle.write.proofs.Writes.{Off, On, off-append, on-left, on-right, word-off, word-on}
+use Rattle.rows.proofs.Writes.{Off, On, off-append, on-left, on-right, word-off, word-on}
 use Rattle.edit.proofs.Spared.{Cell, Clear, way-cell, cell-clear, OffSeat, OffJoint, seats-apart, joints-apart, off-route, off-inner, route-spared, inner-spared, aside}
 use Rattle.edit.proofs.Stands.{entryAt, free-new, route-written, next-written, Stands}
 use Rattle.edit.specs.Encodes.{Encodes}

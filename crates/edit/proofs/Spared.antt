@@ -15,10 +15,10 @@ use Rattle.pool.specs.Holds.{Seat, chainPlaces}
 use Rattle.pool.specs.Means.{Among}
 use Rattle.pool.proofs.Local.{slot-agree}
 use Rattle.plan.specs.Cells.{cellOf, endCell}
-use Rattle.write.specs.Writes.{Write, writes, routeWrites, innerWrites}
+use Rattle.rows.specs.Writes.{Write, writes, routeWrites, innerWrites}
 use Rattle.plan.proofs.Way.{HoldsWay, InnerBut}
 use Rattle.plan.proofs.Chains.{RouteBut, end-owner}
-use Rattle.write.proofs.Writes.{Off, word-off, length-writes}
+use Rattle.rows.proofs.Writes.{Off, word-off, length-writes}
 use Rattle.edit.proofs.Encodes.{Aside}
 
 -- ---- cells

@@ -17,8 +17,8 @@ use Rattle.pool.specs.Holds.{Seat, Seated, bare, InPlace, Holds, HoldsRoot, bar
 use Rattle.pool.specs.Means.{Among, routesUsed, innersUsed}
 use Rattle.pool.proofs.Distinct.{Distinct, routes-distinct, inners-distinct}
 use Rattle.pool.proofs.Places.{route-used}
-use Rattle.write.specs.Writes.{Write, writes, routeWrites}
-use Rattle.write.proofs.Writes.{Off, On, word-on, on-left}
+use Rattle.rows.specs.Writes.{Write, writes, routeWrites}
+use Rattle.rows.proofs.Writes.{Off, On, word-on, on-left}
 use Rattle.edit.specs.Encodes.{Encodes}
 
 -- ---- small facts

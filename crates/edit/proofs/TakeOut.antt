@@ -27,13 +27,13 @@ use Rattle.pool.specs.Means.{Among}
 use Rattle.pool.proofs.Distinct.{Distinct}
 use Rattle.pool.proofs.Frame.{among-append, append-among}
 use Rattle.plan.specs.Cells.{cellOf, Longer}
-use Rattle.write.specs.Writes.{Write, writes, linkWrites, hopWrites}
+use Rattle.rows.specs.Writes.{Write, writes, linkWrites, hopWrites}
 use Rattle.plan.specs.Plan.{HungAt}
 use Rattle.search.proofs.Bare.{bareWay, bare-plug, bare-follows}
 use Rattle.plan.proofs.Way.{plug-way, wayRoutes, routes-plug, plug-routes, inners-plug, plug-inners}
 use Rattle.plan.proofs.Chains.{places-append, chain-split}
 use Rattle.edit.proofs.Rehang.{Rehung, leaf-chain, rest-stays, rehung-holds}
-use Rattle.write.proofs.Writes.{Off, word-off, word-on}
+use Rattle.rows.proofs.Writes.{Off, word-off, word-on}
 use Rattle.edit.proofs.Spared.{Clear, OffSeat}
 use Rattle.edit.proofs.Touch.{leaf-cell, route-touch, inner-touch, aside-touch, rehung-touch}
 use Rattle.edit.proofs.Stands.{some-there, kind-known, hop-back, Stands}

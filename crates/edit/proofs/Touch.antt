@@ -11,11 +11,11 @@ use Rattle.pool.specs.Holds.{Seat, Holds, chainPlaces, routePlaces}
 use Rattle.pool.specs.Means.{Among}
 use Rattle.pool.proofs.Frame.{among-append, routes-in-pool}
 use Rattle.plan.specs.Cells.{cellOf, endCell}
-use Rattle.write.specs.Writes.{Write, writes}
+use Rattle.rows.specs.Writes.{Write, writes}
 use Rattle.plan.proofs.Way.{plug-way, plug-routes, InnerBut}
 use Rattle.plan.proofs.Chains.{RouteBut, places-append}
 use Rattle.edit.proofs.Rehang.{Rehung}
-use Rattle.write.proofs.Writes.{Off, word-off}
+use Rattle.rows.proofs.Writes.{Off, word-off}
 use Rattle.edit.proofs.Spared.{Clear, way-cell, chain-cell, cell-clear, OffSeat, seats-apart, route-spared, inner-spared, aside}
 use Rattle.edit.proofs.Encodes.{Aside}
 

@@ -17,8 +17,8 @@ use Rattle.pool.specs.Means.{KindKnown, Records, Recorded, TrialThere}
 use Rattle.pool.specs.Write.{kindOf, portOf, gatewayOf}
 use Rattle.pool.proofs.Frame.{RouteSame, InnerSame}
 use Rattle.pool.proofs.Local.{route-agree, inner-agree, root-frame, slot-agree, recorded-frame, recorded-length}
-use Rattle.write.specs.Writes.{writes, recordWrites, headWrites}
-use Rattle.write.proofs.Writes.{On, word-off, word-on, length-writes}
+use Rattle.rows.specs.Writes.{writes, recordWrites, headWrites}
+use Rattle.rows.proofs.Writes.{On, word-off, word-on, length-writes}
 use Rattle.edit.proofs.Stands.{kind-known, hop-back}
 use Rattle.edit.specs.Encodes.{Encodes}
 

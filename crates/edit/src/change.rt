@@ -5,6 +5,13 @@ ghost use Rattle.model.specs.Call.{withTrial};
 ghost use Rattle.route.specs.Means.{prefixOf, routeOf};
 ghost use Rattle.pool.specs.Fit.{Fit};
 ghost use Rattle.edit.specs.Encodes.{Encodes, ToPut, ToTake};
+use enter::put_first;
+use enter::put_hung;
+use enter::put_joined;
+use leave::swap_hop;
+use leave::take_last;
+use leave::take_leaf;
+use leave::take_link;
 use marks::Sort;
 use marks::free;
 use plan::HeldAt;
@@ -15,13 +22,6 @@ use plan::plan_put;
 use plan::plan_take;
 use route::Prefix;
 use route::Route;
-use write::put_first;
-use write::put_hung;
-use write::put_joined;
-use write::swap_hop;
-use write::take_last;
-use write::take_leaf;
-use write::take_link;
 
 // A route more, where its prefix is not there and there is room.
 pub fn put_in(pool: &mut [u32], capacity: usize, route: Route)

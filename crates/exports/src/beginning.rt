@@ -1,6 +1,6 @@
 ghost use mathlib.Core.Path.{_≡_};
 ghost use Rattle.promise.specs.Promise.{FreshPromise};
-ghost use Rattle.exports.specs.Codes.{wordsFor};
+ghost use Rattle.codes.specs.Codes.{wordsFor};
 
 // How many words a fresh table of a capacity needs, so that the owner can lend them; 0 for a capacity that `fresh` refuses.
 #[no_mangle]

@@ -1,7 +1,7 @@
 ghost use Rattle.model.specs.Call as call;
 ghost use Rattle.promise.specs.Promise.{Promise};
-ghost use Rattle.exports.specs.Codes.{prefixIn, routeIn};
-use super::codes::route_from;
+ghost use Rattle.codes.specs.Codes.{prefixIn, routeIn};
+use codes::route_from;
 use route::Length;
 use route::Prefix;
 

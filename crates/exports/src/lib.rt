@@ -2,7 +2,6 @@
 // a pointer and a count of words, an array as a pointer. `include/rishavand.h` is this page in C.
 mod beginning;
 mod changing;
-mod codes;
 mod reading;
 
 pub use beginning::rishavand_fresh;

@@ -1,9 +1,10 @@
 ghost use Rattle.model.specs.Call as call;
 ghost use Rattle.pool.specs.Means.{Sound};
 ghost use Rattle.promise.specs.Promise.{Promise, LookupPromise};
-ghost use Rattle.exports.specs.Codes.{prefixIn};
-ghost use Rattle.exports.specs.Out.{Out, YesNo, MaskPromise};
-use super::codes::show;
+ghost use Rattle.codes.specs.Codes.{prefixIn};
+ghost use Rattle.codes.specs.Out.{Out};
+ghost use Rattle.exports.specs.Owed.{YesNo, MaskPromise};
+use codes::show;
 use route::Length;
 use route::Measured;
 use route::Prefix;

@@ -22,11 +22,11 @@ use Rattle.route.specs.declared.answer.Found.{Found}
 use Rattle.climb.specs.Says.{Says}
 use Rattle.climb.specs.Climb.{Looks}
 use Rattle.walk.specs.Walk.{Firsts, Nexts}
-use Rattle.ruling.specs.Own.{OwnRight}
+use Rattle.lent.specs.Own.{OwnRight}
 use Rattle.promise.specs.Promise.{Meant, Promise, LookupPromise}
-use Rattle.ruling.specs.declared.own.Own.the-variants.{Capacity}
+use Rattle.lent.specs.declared.Own.the-variants.{Capacity}
 use Rattle.promise.proofs.Promises.{promise-of, meant-one, refuses-sound}
-use Rattle.ruling.proofs.Lent.{own-sound}
+use Rattle.lent.proofs.Lent.{own-sound}
 
 -- ---- an answer, and the route that it says
 

@@ -9,15 +9,15 @@ ghost use Rattle.pool.specs.Means.{Sound};
 ghost use Rattle.route.specs.Means.{prefixOf};
 ghost use Rattle.route.specs.Answers.{foundNumber, foundValue, roomNumber, roomValue, measuredNumber, measuredValue};
 ghost use Rattle.promise.specs.Promise.{Promise, LookupPromise};
+use lent::Own;
+use lent::Verdict;
+use lent::own_words;
+use lent::tested;
 use route::Found;
 use route::Measured;
 use route::Prefix;
 use route::Refusal;
 use route::Room;
-use ruling::Own;
-use ruling::Verdict;
-use ruling::own_words;
-use ruling::tested;
 
 // Whether a pool is sound: yes exactly when it is.
 pub fn sound(pool: &[u32]) -> bool

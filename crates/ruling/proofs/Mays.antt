@@ -19,12 +19,12 @@ use Rattle.pool.proofs.Local.{recorded-length}
 use Rattle.route.specs.Answers.{refusalNumber}
 use Rattle.route.specs.declared.answer.Refusal.{Refusal}
 use Rattle.route.specs.declared.answer.Refusal.the-variants as why
-use Rattle.ruling.specs.Own.{TestedRight}
-use Rattle.ruling.specs.declared.own.Verdict.the-variants as verdict
+use Rattle.lent.specs.Own.{TestedRight}
+use Rattle.lent.specs.declared.Verdict.the-variants as verdict
 use Rattle.ruling.specs.May.{Tells, MayRight}
 use Rattle.ruling.specs.declared.may.May.the-variants.{Go, No}
 use Rattle.promise.proofs.Promises.{meant-one, meant-none}
-use Rattle.ruling.proofs.Lent.{own-sound, sound-own}
+use Rattle.lent.proofs.Lent.{own-sound, sound-own}
 use Rattle.search.specs.Find.{isAt, Finds}
 use Rattle.search.specs.declared.exact.Spot.{Spot}
 use Rattle.search.specs.declared.exact.Spot.the-variants as spot

@@ -1,6 +1,5 @@
 // Whether a call may go on, or which number it is due: the tests of document 01's table, in its order.
 mod may;
-mod own;
 
 pub use may::May;
 pub use may::may_add;
@@ -9,7 +8,3 @@ pub use may::may_delete;
 pub use may::may_end;
 pub use may::may_open;
 pub use may::may_step_back;
-pub use own::Own;
-pub use own::Verdict;
-pub use own::own_words;
-pub use own::tested;

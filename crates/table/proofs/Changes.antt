@@ -18,12 +18,12 @@ use Rattle.route.specs.Answers.{refusalNumber}
 use Rattle.route.specs.declared.answer.Refusal.{Refusal}
 use Rattle.apply.specs.Does.{Accepted, Does}
 use Rattle.promise.specs.Promise.{Meant, Promise}
-use Rattle.ruling.specs.Own.{OwnRight}
-use Rattle.ruling.specs.declared.own.Own.the-variants.{Capacity}
+use Rattle.lent.specs.Own.{OwnRight}
+use Rattle.lent.specs.declared.Own.the-variants.{Capacity}
 use Rattle.ruling.specs.May.{MayRight}
 use Rattle.ruling.specs.declared.may.May.the-variants.{Go, No}
 use Rattle.promise.proofs.Promises.{meant-one, promise-of, refused-value, refused-next}
-use Rattle.ruling.proofs.Lent.{own-fits, own-sound, sound-own}
+use Rattle.lent.proofs.Lent.{own-fits, own-sound, sound-own}
 
 -- ---- it goes on
 

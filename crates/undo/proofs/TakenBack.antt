@@ -20,7 +20,7 @@ use Rattle.pool.specs.Layout.{word, slot, prefixAt, hopAt, standingIn, rules}
 use Rattle.pool.specs.Means.{Records, Recorded, TrialThere, Means}
 use Rattle.pool.proofs.Local.{recorded-length}
 use Rattle.pool.specs.Fit.{Fit}
-use Rattle.write.specs.Writes.{writes, headWrites}
+use Rattle.rows.specs.Writes.{writes, headWrites}
 use Rattle.edit.specs.Encodes.{Encodes, ToPut, ToTake}
 use Rattle.edit.proofs.Encodes.{means-encodes}
 use Rattle.edit.proofs.Trials.{strike-encodes, close-encodes}

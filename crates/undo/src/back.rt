@@ -35,7 +35,7 @@ pub fn step_back(pool: &mut [u32], capacity: usize)
     ensures { λ _. ⌜ Does capacity call.stepBack (now (pool .entry)) (now (pool .exit)) ⌝ }
 {
     take_back(pool, capacity);
-    write::strike(pool);
+    trial::strike(pool);
 }
 
 // Take back all of them, newest first, and close the trial.
@@ -47,5 +47,5 @@ pub fn back_out(pool: &mut [u32], capacity: usize)
     while pool[4] != 0 {
         step_back(pool, capacity);
     }
-    write::write_head(pool, 0, 0);
+    trial::write_head(pool, 0, 0);
 }

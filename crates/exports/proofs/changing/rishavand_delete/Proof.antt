@@ -1,6 +1,7 @@
 use mathlib.Core.Path.{ap}
 use Rattle.model.specs.Call.{delete}
-use Rattle.exports.proofs.Answers.{prefix-in, as-call}
+use Rattle.codes.proofs.Coded.{prefix-in}
+use Rattle.exports.proofs.Answers.{as-call}
 use borrow.Author.Needs.{needs}
 use Rattle.exports.proofs.changing.rishavand_delete.Statement.{statement}
 use Rattle.exports.proofs.changing.rishavand_delete.Tie as tie

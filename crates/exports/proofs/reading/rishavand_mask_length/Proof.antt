@@ -1,6 +1,6 @@
 use mathlib.Core.Path.{refl, ap}
 use Rattle.route.specs.Answers.{measuredNumber, measuredValue}
-use Rattle.exports.proofs.Answers.{out-refused, out-shown}
+use Rattle.codes.proofs.Coded.{out-refused, out-shown}
 use borrow.Author.Needs.{needs}
 use Rattle.exports.proofs.reading.rishavand_mask_length.Statement.{statement}
 use Rattle.exports.proofs.reading.rishavand_mask_length.Tie as tie

@@ -1,6 +1,7 @@
 use mathlib.Core.Path.{refl, ap}
 use Rattle.model.specs.Call.{after}
-use Rattle.exports.proofs.Answers.{prefix-in, as-call, out-of}
+use Rattle.codes.proofs.Coded.{prefix-in, out-of}
+use Rattle.exports.proofs.Answers.{as-call}
 use borrow.Author.Needs.{needs}
 use Rattle.exports.proofs.reading.rishavand_next.Statement.{statement}
 use Rattle.exports.proofs.reading.rishavand_next.Tie as tie

@@ -1,9 +1,9 @@
 use mathlib.Core.Path.{refl, sym, subst, _∙_}
 use native.Mathlib.Omega.{arith}
 use Rattle.model.specs.Call.{first}
-use Rattle.ruling.specs.Own.{TestedRight}
+use Rattle.lent.specs.Own.{TestedRight}
 use Rattle.promise.proofs.Promises.{refuses-unsound}
-use Rattle.ruling.proofs.Lent.{own-fits, sound-own}
+use Rattle.lent.proofs.Lent.{own-fits, sound-own}
 use Rattle.read.proofs.Founds.{first-answer}
 use borrow.Author.Needs.{needs}
 use Rattle.read.proofs.read.first.Statement.{statement}

@@ -1,8 +1,8 @@
 use mathlib.Core.Path.{refl, sym, subst, _∙_}
 use mathlib.Core.Logic.{inl, inr}
 use native.Mathlib.Omega.{arith}
-use Rattle.ruling.specs.Own.{OwnRight}
-use Rattle.ruling.proofs.Lent.{own-fits}
+use Rattle.lent.specs.Own.{OwnRight}
+use Rattle.lent.proofs.Lent.{own-fits}
 use Rattle.read.proofs.Founds.{lookup-answer}
 use borrow.Author.Needs.{needs}
 use Rattle.read.proofs.read.lookup.Statement.{statement}

@@ -3,9 +3,9 @@ use native.Mathlib.Omega.{arith}
 use borrow.Author.Tests.{not-true, not-false}
 use Rattle.model.specs.Call.{after}
 use Rattle.route.specs.Means.{prefixOf}
-use Rattle.ruling.specs.Own.{TestedRight}
+use Rattle.lent.specs.Own.{TestedRight}
 use Rattle.promise.proofs.Promises.{refuses-unsound}
-use Rattle.ruling.proofs.Lent.{own-fits, sound-own}
+use Rattle.lent.proofs.Lent.{own-fits, sound-own}
 use Rattle.read.proofs.Founds.{bad-prefix, next-answer}
 use borrow.Author.Needs.{needs}
 use Rattle.read.proofs.read.next.Statement.{statement}

@@ -1,7 +1,7 @@
 use mathlib.Core.Path.{refl, subst}
 use native.Mathlib.Omega.{arith}
 use Rattle.model.specs.Call.{room}
-use Rattle.ruling.specs.Own.{TestedRight}
+use Rattle.lent.specs.Own.{TestedRight}
 use Rattle.promise.proofs.Promises.{refuses-unsound}
 use Rattle.read.proofs.Answers.{room-answer}
 use borrow.Author.Needs.{needs}

@@ -1,6 +1,6 @@
 use mathlib.Core.Path.{refl, subst}
 use mathlib.Core.Bool.{false≢true}
-use Rattle.ruling.specs.Own.{TestedRight}
+use Rattle.lent.specs.Own.{TestedRight}
 use borrow.Author.Needs.{needs}
 use Rattle.read.proofs.read.sound.Statement.{statement}
 use Rattle.read.proofs.read.sound.Tie as tie

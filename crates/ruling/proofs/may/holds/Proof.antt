@@ -1,5 +1,5 @@
 use mathlib.Core.Path.{sym, _∙_}
-use Rattle.ruling.proofs.Lent.{own-fits, sound-own}
+use Rattle.lent.proofs.Lent.{own-fits, sound-own}
 use Rattle.ruling.proofs.Mays.{tells-holds}
 use borrow.Author.Needs.{needs}
 use Rattle.ruling.proofs.may.holds.Statement.{statement}

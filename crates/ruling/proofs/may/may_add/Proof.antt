@@ -4,9 +4,9 @@ use borrow.Author.Tests.{not-true, not-false}
 use borrow.Author.Needs.{needs}
 use Rattle.model.specs.Call.{add}
 use Rattle.route.specs.Means.{routeOf}
-use Rattle.ruling.specs.Own.{TestedRight}
+use Rattle.lent.specs.Own.{TestedRight}
 use Rattle.ruling.specs.May.{Tells}
-use Rattle.ruling.proofs.Lent.{sound-own}
+use Rattle.lent.proofs.Lent.{sound-own}
 use Rattle.ruling.proofs.Mays.{add-goes, add-no-1, add-no-2, add-no-3, add-no-4, add-no-5, add-no-6, no-unsound}
 use Rattle.ruling.proofs.may.may_add.Statement.{statement}
 use Rattle.ruling.proofs.may.may_add.Tie as tie

@@ -4,9 +4,9 @@ use borrow.Author.Tests.{not-true, not-false}
 use borrow.Author.Needs.{needs}
 use Rattle.model.specs.Call.{change}
 use Rattle.route.specs.Means.{routeOf}
-use Rattle.ruling.specs.Own.{TestedRight}
+use Rattle.lent.specs.Own.{TestedRight}
 use Rattle.ruling.specs.May.{Tells}
-use Rattle.ruling.proofs.Lent.{sound-own}
+use Rattle.lent.proofs.Lent.{sound-own}
 use Rattle.ruling.proofs.Mays.{change-goes, change-no-1, change-no-2, change-no-3, change-no-4, no-unsound}
 use Rattle.ruling.proofs.may.may_change.Statement.{statement}
 use Rattle.ruling.proofs.may.may_change.Tie as tie

@@ -4,9 +4,9 @@ use borrow.Author.Tests.{not-true, not-false}
 use borrow.Author.Needs.{needs}
 use Rattle.model.specs.Call.{delete}
 use Rattle.route.specs.Means.{prefixOf}
-use Rattle.ruling.specs.Own.{TestedRight}
+use Rattle.lent.specs.Own.{TestedRight}
 use Rattle.ruling.specs.May.{Tells}
-use Rattle.ruling.proofs.Lent.{sound-own}
+use Rattle.lent.proofs.Lent.{sound-own}
 use Rattle.ruling.proofs.Mays.{delete-goes, delete-no-1, delete-no-2, delete-no-3, no-unsound}
 use Rattle.ruling.proofs.may.may_delete.Statement.{statement}
 use Rattle.ruling.proofs.may.may_delete.Tie as tie

@@ -3,9 +3,9 @@ use native.Mathlib.Omega.{arith}
 use borrow.Author.Tests.{not-true, not-false}
 use borrow.Author.Needs.{needs}
 use Rattle.model.specs.Call.{keep, backOut}
-use Rattle.ruling.specs.Own.{TestedRight}
+use Rattle.lent.specs.Own.{TestedRight}
 use Rattle.ruling.specs.May.{Tells}
-use Rattle.ruling.proofs.Lent.{sound-own}
+use Rattle.lent.proofs.Lent.{sound-own}
 use Rattle.ruling.proofs.Mays.{keep-goes, keep-no-1, no-unsound}
 use Rattle.ruling.proofs.may.may_end.Statement.{statement}
 use Rattle.ruling.proofs.may.may_end.Tie as tie

@@ -3,9 +3,9 @@ use native.Mathlib.Omega.{arith}
 use borrow.Author.Tests.{not-true, not-false}
 use borrow.Author.Needs.{needs}
 use Rattle.model.specs.Call.{stepBack}
-use Rattle.ruling.specs.Own.{TestedRight}
+use Rattle.lent.specs.Own.{TestedRight}
 use Rattle.ruling.specs.May.{Tells}
-use Rattle.ruling.proofs.Lent.{sound-own}
+use Rattle.lent.proofs.Lent.{sound-own}
 use Rattle.ruling.proofs.Mays.{no-unsound, step-goes, step-no-1, step-no-2}
 use Rattle.ruling.proofs.may.may_step_back.Statement.{statement}
 use Rattle.ruling.proofs.may.may_step_back.Tie as tie

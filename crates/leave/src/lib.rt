@@ -1,0 +1,65 @@
+// The rows of words that a route taken out, or another hop, writes: each function writes just the words that its row names.
+ghost use mathlib.Core.Path.{_≡_};
+ghost use Prim.Native.Nat.{_+_, _≤_, _<_};
+ghost use lib.ListN.{length};
+ghost use Rattle.route.specs.Means.{hopOf};
+ghost use Rattle.pool.specs.Layout as layout;
+ghost use Rattle.rows.specs.Writes.{writes, linkWrites, dropWrites, lastWrites, hopWrites};
+use pool::Place;
+use route::Hop;
+
+// A route out of a chain that goes on: the cell links past it.
+pub fn take_link(pool: &mut [u32], cell: usize, place: Place)
+    requires { ⌜ (layout.seat (place .0) + 5 < length (now pool)) × (place .0 ≤ 65535) × (1 ≤ layout.countIn (now pool)) × (cell < length (now pool)) ⌝ }
+    ensures { λ _. ⌜ now (pool .exit) ≡ writes (linkWrites (now (pool .entry)) (place .0) cell) (now (pool .entry)) ⌝ }
+{
+    let count = pool[1];
+    let at = pool::seat(place);
+    let next = pool[at + 5];
+    pool[cell] = next;
+    pool[at] = 0;
+    pool[1] = count - 1;
+}
+
+// The last route of an address, with its inner place: the cell above links to the sibling.
+pub fn take_leaf(
+    pool: &mut [u32],
+    capacity: usize,
+    up: usize,
+    inner: Place,
+    link: u32,
+    place: Place,
+)
+    requires { ⌜ (layout.seat (place .0) + 5 < length (now pool)) × (place .0 ≤ 65535) × (1 ≤ layout.countIn (now pool)) × (up < length (now pool)) ⌝ }
+    requires { ⌜ (layout.joint capacity (inner .0) < length (now pool)) × (capacity ≤ 65535) × (inner .0 ≤ 65535) ⌝ }
+    ensures { λ _. ⌜ now (pool .exit) ≡ writes (dropWrites (now (pool .entry)) capacity (place .0) (inner .0) up link) (now (pool .entry)) ⌝ }
+{
+    let count = pool[1];
+    let at = pool::seat(place);
+    let above = pool::joint(capacity, inner);
+    pool[up] = link;
+    pool[above] = 0;
+    pool[at] = 0;
+    pool[1] = count - 1;
+}
+
+// The table's last route.
+pub fn take_last(pool: &mut [u32], place: Place)
+    requires { ⌜ (layout.seat (place .0) + 5 < length (now pool)) × (place .0 ≤ 65535) × (1 ≤ layout.countIn (now pool)) ⌝ }
+    ensures { λ _. ⌜ now (pool .exit) ≡ writes (lastWrites (now (pool .entry)) (place .0)) (now (pool .entry)) ⌝ }
+{
+    let count = pool[1];
+    let at = pool::seat(place);
+    pool[2] = 0;
+    pool[at] = 0;
+    pool[1] = count - 1;
+}
+
+// Another hop in a place.
+pub fn swap_hop(pool: &mut [u32], place: Place, hop: Hop)
+    requires { ⌜ (layout.seat (place .0) + 5 < length (now pool)) × (place .0 ≤ 65535) ⌝ }
+    ensures { λ _. ⌜ now (pool .exit) ≡ writes (hopWrites (place .0) (hopOf hop)) (now (pool .entry)) ⌝ }
+{
+    let at = pool::seat(place);
+    pool::write_hop(pool, at, hop);
+}

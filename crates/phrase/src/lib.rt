@@ -1,0 +1,131 @@
+// The words of a line that stand for a prefix, a hop or a route.
+use check::same;
+use numeral::Fault;
+use numeral::Number;
+use numeral::Taken;
+use numeral::address;
+use numeral::after;
+use numeral::decimal;
+use numeral::take_address;
+use numeral::take_number;
+use numeral::word_at;
+use route::Hop;
+use route::Length;
+use route::Masked;
+use route::Port;
+use route::Prefix;
+use route::Route;
+
+// A prefix and the place behind it in the line, or what is wrong.
+pub enum TakenPrefix {
+    Value(Prefix, usize),
+    Wrong(Fault),
+}
+
+// A hop and the place behind it, or what is wrong.
+enum TakenHop {
+    Value(Hop, usize),
+    Wrong(Fault),
+}
+
+// A route and the place behind it, or what is wrong.
+pub enum TakenRoute {
+    Value(Route, usize),
+    Wrong(Fault),
+}
+
+// A mask with a hole is handed on as a length that no prefix has, so that the call refuses it with 3, in its order.
+fn masked(address: u32, mask: u32) -> Prefix {
+    match Prefix::with_mask(address, mask) {
+        Masked::Prefix(prefix) => prefix,
+        Masked::Refused(_) => Prefix::new(address, Length(Prefix::WIDTH + 1)),
+    }
+}
+
+// An address and a length with a slash between them, at a place of the word.
+fn with_length(text: &[u8], slash: usize, next: usize) -> TakenPrefix {
+    if text.len() <= slash {
+        return TakenPrefix::Wrong(Fault::BadPrefix);
+    }
+    let Number::Value(bits) = address(&text[0..slash]) else {
+        return TakenPrefix::Wrong(Fault::BadAddress);
+    };
+    let behind = slash + 1;
+    let Number::Value(length) = decimal(&text[behind..]) else {
+        return TakenPrefix::Wrong(Fault::BadNumber);
+    };
+    TakenPrefix::Value(Prefix::new(bits, Length(length)), next)
+}
+
+// An address, and behind it the word mask and the mask.
+fn with_mask(line: &[u8], text: &[u8], next: usize) -> TakenPrefix {
+    if !same(word_at(line, next), b"mask") {
+        return TakenPrefix::Wrong(Fault::BadPrefix);
+    }
+    let Number::Value(bits) = address(text) else {
+        return TakenPrefix::Wrong(Fault::BadAddress);
+    };
+    match take_address(line, after(line, next)) {
+        Taken::Value(mask, end) => TakenPrefix::Value(masked(bits, mask), end),
+        Taken::Wrong(fault) => TakenPrefix::Wrong(fault),
+    }
+}
+
+pub fn take_prefix(line: &[u8], from: usize) -> TakenPrefix {
+    let text = word_at(line, from);
+    let next = after(line, from);
+    if text.len() == 0 {
+        return TakenPrefix::Wrong(Fault::TooFewWords);
+    }
+    let slash = bytes::scan::find(text, 0, text.len(), b'/');
+    if slash < text.len() {
+        with_length(text, slash, next)
+    } else {
+        with_mask(line, text, next)
+    }
+}
+
+fn direct(line: &[u8], from: usize) -> TakenHop {
+    match take_number(line, from) {
+        Taken::Value(port, end) => TakenHop::Value(Hop::Direct(Port(port)), end),
+        Taken::Wrong(fault) => TakenHop::Wrong(fault),
+    }
+}
+
+fn via(line: &[u8], from: usize) -> TakenHop {
+    match take_number(line, from) {
+        Taken::Value(port, next) => match take_address(line, next) {
+            Taken::Value(gateway, end) => TakenHop::Value(Hop::Via(Port(port), gateway), end),
+            Taken::Wrong(fault) => TakenHop::Wrong(fault),
+        },
+        Taken::Wrong(fault) => TakenHop::Wrong(fault),
+    }
+}
+
+fn take_hop(line: &[u8], from: usize) -> TakenHop {
+    let kind = word_at(line, from);
+    let next = after(line, from);
+    if kind.len() == 0 {
+        return TakenHop::Wrong(Fault::TooFewWords);
+    }
+    if same(kind, b"direct") {
+        return direct(line, next);
+    }
+    if same(kind, b"via") {
+        return via(line, next);
+    }
+    if same(kind, b"reject") {
+        return TakenHop::Value(Hop::Reject, next);
+    }
+    TakenHop::Wrong(Fault::BadHop)
+}
+
+pub fn take_route(line: &[u8], from: usize) -> TakenRoute {
+    match take_prefix(line, from) {
+        TakenPrefix::Value(prefix, next) => match take_hop(line, next) {
+            TakenHop::Value(hop, end) => TakenRoute::Value(Route { prefix, hop }, end),
+            TakenHop::Wrong(fault) => TakenRoute::Wrong(fault),
+        },
+        TakenPrefix::Wrong(fault) => TakenRoute::Wrong(fault),
+    }
+}
