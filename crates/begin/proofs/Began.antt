@@ -81,20 +81,20 @@ refused-fresh ws c k e z = record { numberIs = e; emptyThen = λ f. absurd (z f)
 pub no-capacity : (ws : List ℕ) (c : ℕ) → c ≡ 0 → FreshPromise c ws ws 1
 no-capacity ws c h = refused-fresh ws c 1 (λ m. rw (eq-eqb c 0 h)) (λ z. omega arith)
 
-pub past-limit : (ws : List ℕ) (c : ℕ) → 96 < c → FreshPromise c ws ws 1
+pub past-limit : (ws : List ℕ) (c : ℕ) → rules .limit < c → FreshPromise c ws ws 1
 past-limit ws c h =
     let a : eqb c 0 ≡ false = ne-eqb c 0 (λ z. omega arith) in
-    let b : ltb 96 c ≡ true = lt-ltb 96 c h in
+    let b : ltb (rules .limit) c ≡ true = lt-ltb (rules .limit) c h in
     refused-fresh ws c 1 (λ m. rw (a, b)) (λ z. omega arith)
 
-pub short-buffer : (ws : List ℕ) (c : ℕ) → (c ≡ 0 → ⊥) → c ≤ 96 → length ws < size c → FreshPromise c ws ws 2
+pub short-buffer : (ws : List ℕ) (c : ℕ) → (c ≡ 0 → ⊥) → c ≤ rules .limit → length ws < size c → FreshPromise c ws ws 2
 short-buffer ws c h k s =
     let a : eqb c 0 ≡ false = ne-eqb c 0 h in
-    let b : ltb 96 c ≡ false = le-ltb 96 c k in
+    let b : ltb (rules .limit) c ≡ false = le-ltb (rules .limit) c k in
     let d : ltb (length ws) (size c) ≡ true = lt-ltb (length ws) (size c) s in
     refused-fresh ws c 2 (λ m. rw (a, b, d)) (λ z. omega arith)
 
-pub begins : (ws : List ℕ) (c k : ℕ) → (c ≡ 0 → ⊥) → c ≤ 96 → k ≡ size c → k ≤ length ws → FreshPromise c ws (begun ws k c) 0
+pub begins : (ws : List ℕ) (c k : ℕ) → (c ≡ 0 → ⊥) → c ≤ rules .limit → k ≡ size c → k ≤ length ws → FreshPromise c ws (begun ws k c) 0
 begins ws c k h r f g = rw f (record {
   numberIs = λ m. sym (zeroed m);
   emptyThen = λ q. begun-means ws c fits (empty-lawful rules c (length ws) none (rw (zeroed none)));
@@ -109,12 +109,12 @@ begins ws c k h r f g = rw f (record {
     zeroed : (m : Meaning Hop) → number rules (fresh c (length ws)) m ≡ 0
     zeroed m =
         let a : eqb c 0 ≡ false = ne-eqb c 0 h in
-        let b : ltb 96 c ≡ false = le-ltb 96 c r in
+        let b : ltb (rules .limit) c ≡ false = le-ltb (rules .limit) c r in
         let d : ltb (length ws) (size c) ≡ false = le-ltb (length ws) (size c) (omega arith) in
         rw (a, b, d)
 
 -- what `clear` left of the own words, with the others behind them
-pub begins-cleared : (ws zs : List ℕ) (c k : ℕ) → (c ≡ 0 → ⊥) → c ≤ 96 → k ≡ size c → k ≤ length ws → zs ≡ replicate (length (take k ws)) 0
+pub begins-cleared : (ws zs : List ℕ) (c k : ℕ) → (c ≡ 0 → ⊥) → c ≤ rules .limit → k ≡ size c → k ≤ length ws → zs ≡ replicate (length (take k ws)) 0
     → FreshPromise c ws (set (zs ++ drop k ws) 0 c) 0
 begins-cleared ws zs c k h r f g e =
     subst (λ (l : List ℕ). FreshPromise c ws (set (l ++ drop k ws) 0 c) 0) (sym (e ∙ ap (λ (n : ℕ). replicate n 0) (length-take-le k ws g)))

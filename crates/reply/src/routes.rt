@@ -12,7 +12,7 @@ use super::text::text;
 use route::Found;
 use route::Room;
 
-// The words of a pool of the largest capacity, 96, and 16 past it.
+// The words of a pool of the largest capacity, and 16 past it.
 pub type Words = [u32; 2200];
 
 // The routes in walk order. There are no more than the largest capacity, which is what ends the loop for the proof.

@@ -88,7 +88,7 @@ fn needed(capacity: u32) {
 
 fn peek(words: &Words, index: u32, line: u64) {
     let i = pool::wide(index);
-    if 2200 <= i {
+    if words.len() <= i {
         wrong(line, Fault::OutsideBuffer);
         return;
     }
