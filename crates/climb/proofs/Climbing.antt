@@ -16,12 +16,12 @@ use Rattle.route.specs.Means as means
 use Rattle.route.specs.declared.hop.Route as source
 use Rattle.route.specs.declared.answer.Found as found
 use Rattle.route.specs.declared.answer.Refusal.the-variants.{NotSound, NoMatch}
+use Rattle.patricia.specs.Good.{Good, RootGood}
 use Rattle.patricia.specs.Tree.{Entry, Tree, leaf, node, Root, routeOf, routes, rootRoutes}
 use Rattle.patricia.specs.Obeys.{LongestFirst}
-use Rattle.patricia.specs.Way.{Step, wentLeft, wentRight}
-use Rattle.patricia.proofs.Form.{Good, RootGood}
+use Rattle.patricia.specs.Way.{Step, wentLeft, wentRight, Follows}
 use Rattle.patricia.proofs.Search.{firstMatch, leftmostMatch, search, search-best}
-use Rattle.patricia.proofs.Zip.{Follows, climb, climb-search}
+use Rattle.patricia.proofs.Zip.{climb, climb-search}
 use Rattle.pool.specs.Layout.{seat, rootIn, nextAt, leftAt, prefixAt, routeAt}
 use Rattle.pool.specs.Link.{toRoute}
 use Rattle.pool.specs.Holds.{Seat, Seated, bare, bareRoot, bareEntry, bareEntries, Chain, Holds, HoldsRoot}

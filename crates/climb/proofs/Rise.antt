@@ -7,10 +7,9 @@ use native.Mathlib.Omega.{arith}
 use lib.ListN.{length, getD}
 use Rattle.bits.specs.Address.{bit}
 use Rattle.bits.proofs.Cases.{eq-or-ne}
+use Rattle.patricia.specs.Good.{Good}
 use Rattle.patricia.specs.Tree.{node}
-use Rattle.patricia.specs.Way.{Step, wentLeft, wentRight, plug}
-use Rattle.patricia.proofs.Form.{Good}
-use Rattle.patricia.proofs.Zip.{Follows}
+use Rattle.patricia.specs.Way.{Step, wentLeft, wentRight, plug, Follows}
 use Rattle.pool.specs.Layout.{markAt, leftAt, rightAt}
 use Rattle.pool.specs.Holds.{Seat, Seated, bare, Holds}
 use Rattle.search.specs.Down.{Kept}

@@ -5,8 +5,8 @@ use mathlib.Core.List.{List, _∷_}
 use lib.ListN.{getD}
 use Rattle.bits.specs.Address.{bit}
 use Rattle.model.specs.Match.{best}
+use Rattle.patricia.specs.Good.{Good, RootGood}
 use Rattle.patricia.specs.Tree.{Entry, leaf, node, Root, routes, rootRoutes}
-use Rattle.patricia.proofs.Form.{Good, RootGood}
 use Rattle.pool.specs.Layout.{rootIn, markAt}
 use Rattle.pool.specs.Link.{toRoute}
 use Rattle.pool.specs.Holds.{Seat, Seated, bare, bareRoot, Chain, Holds, HoldsRoot}

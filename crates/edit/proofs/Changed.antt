@@ -12,8 +12,8 @@ use Rattle.model.specs.State.{State}
 use Rattle.model.specs.Call.{withTrial}
 use Rattle.model.proofs.Tests.{none-not-some}
 use Rattle.model.proofs.Edits.{length-remove}
+use Rattle.patricia.specs.Way.{reached}
 use Rattle.patricia.specs.Tree.{Root, routes, rootRoutes}
-use Rattle.patricia.proofs.Find.{reached}
 use Rattle.pool.specs.Layout.{rootIn, countIn}
 use Rattle.pool.specs.declared.link.Place.{Place}
 use Rattle.pool.specs.Holds.{Seat, Seated, bare, bareRoot, HoldsRoot}

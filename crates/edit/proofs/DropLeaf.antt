@@ -14,11 +14,11 @@ use Rattle.model.specs.Ipv4.{Hop}
 use Rattle.model.specs.State.{State, changes}
 use Rattle.model.specs.Call.{withTrial}
 use Rattle.model.proofs.Edits.{length-remove}
+use Rattle.patricia.specs.Good.{RootGood}
 use Rattle.patricia.specs.Tree.{Entry, leaf, routes, rootRoutes}
-use Rattle.patricia.specs.Way.{Step, wentLeft, wentRight, plug}
-use Rattle.patricia.proofs.Form.{RootGood}
+use Rattle.patricia.specs.Way.{Step, wentLeft, wentRight, plug, Follows}
 use Rattle.patricia.proofs.Take.{unhang, leafOf, takeOut, take-good, take-routes}
-use Rattle.patricia.proofs.Zip.{Follows, plugRoot, take-plug}
+use Rattle.patricia.proofs.Zip.{plugRoot, take-plug}
 use Rattle.pool.specs.Layout.{word, seat, joint, kindAt, markAt}
 use Rattle.pool.specs.Holds.{Seat, Seated, bare, Holds, routePlaces, innerPlaces}
 use Rattle.pool.specs.Means.{Among}

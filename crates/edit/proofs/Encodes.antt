@@ -10,8 +10,9 @@ use Rattle.model.specs.Ipv4.{Hop}
 use Rattle.model.specs.State.{Trial, closed, opened, State, changes}
 use Rattle.model.specs.Lawful.{Lawful}
 use Rattle.model.specs.Call.{withTrial}
+use Rattle.patricia.specs.Good.{RootGood}
 use Rattle.patricia.specs.Tree.{Root, rootRoutes}
-use Rattle.patricia.proofs.Form.{RootGood, root-obeys-good, root-good-obeys}
+use Rattle.patricia.proofs.Form.{root-obeys-good, root-good-obeys}
 use Rattle.pool.specs.Layout.{word, rules, standingIn, kindAt, markAt}
 use Rattle.pool.specs.Holds.{Seat, bareRoot, HoldsRoot}
 use Rattle.pool.specs.Means.{Recorded, TrialThere, Among, routesUsed, innersUsed, Means}

@@ -15,11 +15,10 @@ use Rattle.model.specs.Ipv4.{Hop}
 use Rattle.model.specs.State.{State, changes}
 use Rattle.model.specs.Call.{withTrial}
 use Rattle.model.proofs.Edits.{length-insert}
+use Rattle.patricia.specs.Good.{Good}
 use Rattle.patricia.specs.Tree.{Entry, leaf, routes}
 use Rattle.patricia.specs.Obeys.{Shorter}
-use Rattle.patricia.specs.Way.{plug}
-use Rattle.patricia.proofs.Form.{Good}
-use Rattle.patricia.proofs.Find.{reached}
+use Rattle.patricia.specs.Way.{plug, reached}
 use Rattle.patricia.proofs.Hang.{hang, hangAt, hang-good, hang-routes}
 use Rattle.patricia.proofs.Zip.{reached-plug, hang-plug}
 use Rattle.pool.specs.Layout.{word, seat, kindAt, markAt}

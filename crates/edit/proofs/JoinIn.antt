@@ -17,12 +17,13 @@ use Rattle.model.specs.Ipv4.{Hop}
 use Rattle.model.specs.State.{State, changes}
 use Rattle.model.specs.Call.{withTrial}
 use Rattle.model.proofs.Edits.{length-insert}
+use Rattle.patricia.specs.Good.{Good}
 use Rattle.patricia.specs.Tree.{Entry, leaf, node, routes}
 use Rattle.patricia.specs.Obeys.{Grows}
-use Rattle.patricia.specs.Way.{toward, Step, wentLeft, wentRight, plug}
-use Rattle.patricia.proofs.Form.{Good, side}
+use Rattle.patricia.specs.Way.{toward, Step, wentLeft, wentRight, plug, NotPast}
+use Rattle.patricia.proofs.Form.{side}
 use Rattle.patricia.proofs.Put.{join, putAt, put-good, put-routes}
-use Rattle.patricia.proofs.Zip.{NotPast, put-plug}
+use Rattle.patricia.proofs.Zip.{put-plug}
 use Rattle.pool.specs.Layout.{word, seat, joint, kindAt, markAt, leftAt, rightAt}
 use Rattle.pool.specs.Link.{toRoute, toInner}
 use Rattle.pool.specs.Holds.{Seat, Seated, bareEntry, bare, Holds, routePlaces, innerPlaces}

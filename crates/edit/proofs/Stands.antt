@@ -9,8 +9,8 @@ use lib.ListN.{length}
 use Rattle.model.specs.Routes.{Route}
 use Rattle.model.specs.Ipv4.{Hop, direct, via, reject}
 use Rattle.model.specs.State.{State}
+use Rattle.patricia.specs.Good.{Good, RootGood}
 use Rattle.patricia.specs.Tree.{Entry, Root, routes, rootRoutes}
-use Rattle.patricia.proofs.Form.{Good, RootGood}
 use Rattle.pool.specs.Layout.{word, size, seat, kindAt, nextAt, hopFrom, markAt}
 use Rattle.pool.specs.Write.{kindOf, portOf, gatewayOf}
 use Rattle.pool.specs.Holds.{Seat, Seated, bare, InPlace, Holds, HoldsRoot, bareRoot, routePlaces, innerPlaces}

@@ -14,9 +14,10 @@ use Rattle.model.specs.Ipv4.{Hop}
 use Rattle.model.specs.State.{State, changes}
 use Rattle.model.specs.Call.{withTrial}
 use Rattle.model.proofs.Edits.{length-remove, length-replace}
+use Rattle.patricia.specs.Good.{Good, RootGood}
 use Rattle.patricia.specs.Tree.{Entry, leaf, routes, rootRoutes}
 use Rattle.patricia.specs.Way.{plug}
-use Rattle.patricia.proofs.Form.{Good, RootGood, routes-in-order}
+use Rattle.patricia.proofs.Form.{routes-in-order}
 use Rattle.patricia.proofs.Swap.{exchange, swapAt, swap-good, swap-routes}
 use Rattle.patricia.proofs.Take.{unhang, leafOf, takeOut, take-good, take-routes}
 use Rattle.patricia.proofs.Zip.{plugRoot, take-plug, swap-plug}

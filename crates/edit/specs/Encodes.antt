@@ -9,8 +9,8 @@ use Rattle.model.specs.Prefix.{Prefix, wellFormed}
 use Rattle.model.specs.Routes.{Route, find}
 use Rattle.model.specs.Ipv4.{Hop}
 use Rattle.model.specs.State.{State, changes}
+use Rattle.patricia.specs.Good.{RootGood}
 use Rattle.patricia.specs.Tree.{Root, rootRoutes}
-use Rattle.patricia.proofs.Form.{RootGood}
 use Rattle.pool.specs.Layout.{size, capacityIn, countIn, rootIn, kindAt, markAt}
 use Rattle.pool.specs.Holds.{Seat, bareRoot, HoldsRoot}
 use Rattle.pool.specs.Means.{TrialThere, Among, routesUsed, innersUsed}

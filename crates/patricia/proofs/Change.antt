@@ -7,11 +7,12 @@ use Rattle.bits.specs.Address.{first, bit}
 use Rattle.model.specs.Prefix.{Prefix}
 use Rattle.model.specs.Routes.{Route, AllAfter, insert}
 use Rattle.model.proofs.Append.{AllBefore, insert-left, insert-right}
+use Rattle.patricia.specs.Good.{All, Joint, Good}
 use Rattle.patricia.specs.Tree.{Entry, Tree, leaf, node, hung, routes, Under}
 use Rattle.patricia.specs.Obeys.{LeafObeys, Grows}
-use Rattle.patricia.specs.Way.{toward}
-use Rattle.patricia.proofs.Form.{side, All, all-under, Joint, Good, with-left, with-right, after-right, before-left}
-use Rattle.patricia.proofs.Find.{reached, entriesAt, under-left, under-right}
+use Rattle.patricia.specs.Way.{toward, reached}
+use Rattle.patricia.proofs.Form.{side, all-under, with-left, with-right, after-right, before-left}
+use Rattle.patricia.proofs.Find.{entriesAt, under-left, under-right}
 
 -- what changes a list of routes at one prefix leaves the routes that all come before it, or all after it, alone
 pub record Local {P : Type 0} (p : Prefix) (op : List (Route P) → List (Route P)) : Type 0 where

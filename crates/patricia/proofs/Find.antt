@@ -13,10 +13,11 @@ use Rattle.model.specs.Prefix.{Prefix, same}
 use Rattle.model.specs.Routes.{Route, find}
 use Rattle.model.proofs.Tests.{passed-or-not}
 use Rattle.model.proofs.Append.{find-left, find-right}
+use Rattle.patricia.specs.Good.{Joint, Good}
 use Rattle.patricia.specs.Tree.{Entry, Tree, leaf, node, routeOf, hung, routes, Under}
 use Rattle.patricia.specs.Obeys.{LeafObeys}
-use Rattle.patricia.specs.Way.{toward}
-use Rattle.patricia.proofs.Form.{side, Joint, Good, joint-left, joint-right, not-under}
+use Rattle.patricia.specs.Way.{toward, reached}
+use Rattle.patricia.proofs.Form.{side, joint-left, joint-right, not-under}
 
 module _ {P : Type 0} where
   -- the route of a leaf that has this length
@@ -32,12 +33,7 @@ module _ {P : Type 0} where
       rw (eq-eqb (p .address) a h) (ap (λ (o : Option (Route P)). cond (eqb (p .length) (e .length)) (some (routeOf a e)) o) (find-hung p a es h))
 
 module _ {N P : Type 0} where
-  -- the address of the leaf that x's bits lead to
-  abbrev pub reached : ℕ → ℕ → Tree N P → ℕ
-  reached W x (leaf a es) = a
-  reached W x (node n b l r) = toward (bit W b x) (reached W x l) (reached W x r)
-
-  -- and its routes
+  -- the routes of the leaf that x's bits lead to
   abbrev pub entriesAt : ℕ → ℕ → Tree N P → List (Entry P)
   entriesAt W x (leaf a es) = es
   entriesAt W x (node n b l r) = toward (bit W b x) (entriesAt W x l) (entriesAt W x r)

@@ -1,4 +1,4 @@
--- The form of a tree that proofs go by, that it is the form of `Obeys`, and what the routes of such a tree are: well formed and in walk order.
+-- The form of a good tree is that of `Obeys`, and its routes are well formed and in walk order.
 use Prim.Native.Nat.{ℕ, suc, _+_, _*_, _<_}
 use mathlib.Core.Path.{_≡_, refl, sym, ap, subst, _∙_}
 use mathlib.Core.List.{List, [], _∷_}
@@ -15,6 +15,7 @@ use Rattle.model.proofs.Routes.{all-after, find-held}
 use Rattle.model.proofs.Append.{held-append, append-order, AllBefore}
 use Rattle.model.proofs.Match.{formed, AllFormed}
 use Rattle.patricia.specs.Tree.{Entry, Tree, leaf, node, Root, routeOf, hung, routes, rootRoutes, Under}
+use Rattle.patricia.specs.Good.{All, Joint, Good, RootGood}
 use Rattle.patricia.specs.Obeys.{Shorter, LongestFirst, AllWellFormed, LeafObeys, Grows, Obeys, RootObeys}
 
 -- ---- bits before b, and bit b
@@ -53,11 +54,6 @@ module _ {P : Type 0} where
 module _ {N P : Type 0} where
   -- ---- every address under a tree
 
-  -- what Q says of an address, it says of every one under the tree
-  abbrev pub All : (ℕ → Type 0) → Tree N P → Type 0
-  All Q (leaf a es) = Q a
-  All Q (node n b l r) = All Q l × All Q r
-
   -- of each that is under it
   pub all-under : (Q : ℕ → Type 0) (x : ℕ) (t : Tree N P) → All Q t → Under x t → Q x
   all-under Q x (leaf a es) h u = subst Q (sym u) h
@@ -79,26 +75,7 @@ module _ {N P : Type 0} where
   lowest-under (leaf a es) = refl
   lowest-under (node n b l r) = inl (lowest-under l)
 
-  -- ---- the form that proofs prefer
-
-  -- One value carries "share the bits before b, 0 and 1 at b", and it survives every edit.
-  pub record Joint (W b : ℕ) (l r : Tree N P) : Type 0 where
-    pub value : ℕ
-    pub within : b < W
-    pub left : All (λ x. first W (suc b) x ≡ 2 * value) l
-    pub right : All (λ x. first W (suc b) x ≡ 2 * value + 1) r
-    pub growsLeft : Grows b l
-    pub growsRight : Grows b r
-
-  -- the form of the whole tree; a leaf's is the one of `Obeys`
-  abbrev pub Good : ℕ → Tree N P → Type 0
-  Good W (leaf a es) = LeafObeys W a es
-  Good W (node n b l r) = Joint W b l r × Good W l × Good W r
-
-  -- the empty tree is good
-  abbrev pub RootGood : ℕ → Root N P → Type 0
-  RootGood W none = Unit {0}
-  RootGood W (some t) = Good W t
+  -- ---- the two sides of a node
 
   -- an address on the left has the bits of the value before b, and a 0 there
   pub joint-left : (W b : ℕ) (l r : Tree N P) (j : Joint W b l r) (x : ℕ) → Under x l → (first W b x ≡ j .value) × (bit W b x ≡ 0)

@@ -15,10 +15,11 @@ use Rattle.model.specs.Routes.{Route, find, insert}
 use Rattle.model.proofs.Tests.{passed-or-not, not-both}
 use Rattle.model.proofs.Order.{true-same}
 use Rattle.model.proofs.Edits.{off-head}
+use Rattle.patricia.specs.Way.{reached}
+use Rattle.patricia.specs.Good.{Good}
 use Rattle.patricia.specs.Tree.{Entry, Tree, routeOf, hung, routes, Under}
 use Rattle.patricia.specs.Obeys.{Shorter, LongestFirst, AllWellFormed}
-use Rattle.patricia.proofs.Form.{Good}
-use Rattle.patricia.proofs.Find.{reached, entriesAt, reached-under, reached-good, find-reached}
+use Rattle.patricia.proofs.Find.{entriesAt, reached-under, reached-good, find-reached}
 use Rattle.patricia.proofs.Change.{insert-local, change, change-good, change-routes}
 
 module _ {P : Type 0} where

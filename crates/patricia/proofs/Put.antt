@@ -17,11 +17,12 @@ use Rattle.model.specs.Routes.{Route, find, insert}
 use Rattle.model.proofs.Tests.{passed-or-not}
 use Rattle.model.proofs.Edits.{insert-front}
 use Rattle.model.proofs.Append.{insert-right}
+use Rattle.patricia.specs.Good.{All, Joint, Good}
 use Rattle.patricia.specs.Tree.{Entry, Tree, leaf, node, routeOf, routes, Under}
 use Rattle.patricia.specs.Obeys.{LeafObeys, Grows}
-use Rattle.patricia.specs.Way.{toward}
-use Rattle.patricia.proofs.Form.{side, All, all-under, under-all, Joint, Good, with-left, with-right, joint-left, joint-right, joint-share, not-under, after-right, before-left}
-use Rattle.patricia.proofs.Find.{reached, reached-under, under-reached}
+use Rattle.patricia.specs.Way.{toward, reached}
+use Rattle.patricia.proofs.Form.{side, all-under, under-all, with-left, with-right, joint-left, joint-right, joint-share, not-under, after-right, before-left}
+use Rattle.patricia.proofs.Find.{reached-under, under-reached}
 use Rattle.patricia.proofs.Change.{insert-local, local-left, local-right}
 
 module _ {N P : Type 0} where

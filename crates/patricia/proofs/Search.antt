@@ -16,10 +16,11 @@ use Rattle.model.specs.Routes.{Route, Held}
 use Rattle.model.specs.Match.{NoMatch, longer, best}
 use Rattle.model.proofs.Append.{held-append}
 use Rattle.model.proofs.Match.{Formed, matched, best-some, none-best}
+use Rattle.patricia.specs.Good.{Joint, Good, RootGood}
 use Rattle.patricia.specs.Tree.{Entry, Tree, leaf, node, Root, routeOf, hung, routes, rootRoutes, Under}
 use Rattle.patricia.specs.Obeys.{Shorter, LongestFirst}
 use Rattle.patricia.specs.Way.{toward}
-use Rattle.patricia.proofs.Form.{side, all-under, lowest, lowest-under, Joint, Good, RootGood, joint-left, joint-right, held-under, below-right, formed-routes}
+use Rattle.patricia.proofs.Form.{side, all-under, lowest, lowest-under, joint-left, joint-right, held-under, below-right, formed-routes}
 
 module _ {P : Type 0} where
   -- the first that is there

@@ -4,11 +4,12 @@ use mathlib.Core.Path.{_≡_, refl}
 use mathlib.Core.Logic.{⊎-elim}
 use mathlib.Core.Option.{none, some}
 use native.Mathlib.Omega.{arith}
+use Rattle.patricia.specs.Good.{Good, RootGood}
 use Rattle.patricia.specs.Tree.{Tree, leaf, node, Root}
 use Rattle.patricia.specs.Size.{leaves, inners}
 use Rattle.patricia.specs.Obeys.{Grows}
 use Rattle.patricia.specs.Way.{depth, rootDepth}
-use Rattle.patricia.proofs.Form.{side, Good, RootGood}
+use Rattle.patricia.proofs.Form.{side}
 
 module _ {N P : Type 0} where
   -- one leaf more than inner nodes

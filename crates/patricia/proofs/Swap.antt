@@ -15,10 +15,12 @@ use Rattle.model.proofs.Routes.{find-after}
 use Rattle.model.proofs.Edits.{off-head}
 use Rattle.model.proofs.Tests.{passed-or-not}
 use Rattle.model.proofs.Append.{find-before}
+use Rattle.patricia.specs.Way.{reached}
+use Rattle.patricia.specs.Good.{Good}
 use Rattle.patricia.specs.Tree.{Entry, Tree, routeOf, hung, routes}
 use Rattle.patricia.specs.Obeys.{Shorter, LongestFirst, AllWellFormed}
-use Rattle.patricia.proofs.Form.{Good, found-under}
-use Rattle.patricia.proofs.Find.{reached, entriesAt, reached-good}
+use Rattle.patricia.proofs.Form.{found-under}
+use Rattle.patricia.proofs.Find.{entriesAt, reached-good}
 use Rattle.patricia.proofs.Change.{Local, change, change-good, change-routes}
 
 module _ {P : Type 0} where

@@ -14,10 +14,11 @@ use Rattle.model.specs.Routes.{Route, find, remove}
 use Rattle.model.proofs.Tests.{passed-or-not}
 use Rattle.model.proofs.Routes.{find-after}
 use Rattle.model.proofs.Append.{find-before, remove-left, remove-right}
+use Rattle.patricia.specs.Good.{All, Good, RootGood}
 use Rattle.patricia.specs.Tree.{Entry, Tree, leaf, node, Root, routeOf, hung, routes, rootRoutes, Under}
 use Rattle.patricia.specs.Obeys.{Shorter, LongestFirst, AllWellFormed, Grows}
 use Rattle.patricia.specs.Way.{toward}
-use Rattle.patricia.proofs.Form.{side, All, Good, RootGood, with-left, with-right, found-under}
+use Rattle.patricia.proofs.Form.{side, with-left, with-right, found-under}
 use Rattle.patricia.proofs.Find.{under-left, under-right}
 use Rattle.patricia.proofs.Change.{Local, local-left, local-right, first-left, first-right}
 

@@ -10,9 +10,10 @@ use Rattle.bits.specs.Address.{bit}
 use Rattle.bits.proofs.Cases.{Compared, lower, same, higher, compared}
 use Rattle.bits.proofs.First.{bit-fewer}
 use Rattle.model.specs.Routes.{Route, Held}
+use Rattle.patricia.specs.Good.{Good, RootGood}
 use Rattle.patricia.specs.Tree.{Entry, Tree, leaf, node, Root, routeOf, hung, routes, rootRoutes, Under}
 use Rattle.patricia.specs.Way.{toward, depth, rootDepth}
-use Rattle.patricia.proofs.Form.{lowest, lowest-under, Good, RootGood, joint-left, joint-right, joint-share, held-under, under-held, routes-some}
+use Rattle.patricia.proofs.Form.{lowest, lowest-under, joint-left, joint-right, joint-share, held-under, under-held, routes-some}
 
 module _ {N P : Type 0} where
   -- the tree without its names

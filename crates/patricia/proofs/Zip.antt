@@ -10,11 +10,12 @@ use lib.ListN.{length}
 use Rattle.bits.specs.Address.{bit}
 use Rattle.model.specs.Prefix.{Prefix}
 use Rattle.model.specs.Routes.{Route}
+use Rattle.patricia.specs.Good.{Good}
 use Rattle.patricia.specs.Tree.{Entry, Tree, leaf, node, Root}
-use Rattle.patricia.specs.Way.{toward, depth, Step, wentLeft, wentRight, plug}
-use Rattle.patricia.proofs.Form.{side, Good}
+use Rattle.patricia.specs.Way.{toward, depth, Step, wentLeft, wentRight, plug, reached, Follows, NotPast}
+use Rattle.patricia.proofs.Form.{side}
 use Rattle.patricia.proofs.Search.{orElse, leftmostMatch, search}
-use Rattle.patricia.proofs.Find.{reached, entriesAt, findIn}
+use Rattle.patricia.proofs.Find.{entriesAt, findIn}
 use Rattle.patricia.proofs.Change.{change}
 use Rattle.patricia.proofs.Hang.{hang, hangAt}
 use Rattle.patricia.proofs.Put.{putAt}
@@ -22,18 +23,6 @@ use Rattle.patricia.proofs.Take.{rejoinLeft, rejoinRight, takeOut}
 use Rattle.patricia.proofs.Swap.{exchange, swapAt}
 
 module _ {N P : Type 0} where
-  -- the way goes by d's bits
-  abbrev pub Follows : ℕ → ℕ → List (Step N P) → Type 0
-  Follows W d [] = Unit {0}
-  Follows W d (wentLeft n b r ∷ w) = (bit W b d ≡ 0) × Follows W d w
-  Follows W d (wentRight n b l ∷ w) = (bit W b d ≡ 1) × Follows W d w
-
-  -- no bit on the way comes after k
-  abbrev pub NotPast : ℕ → List (Step N P) → Type 0
-  NotPast k [] = Unit {0}
-  NotPast k (wentLeft n b r ∷ w) = (b ≤ k) × NotPast k w
-  NotPast k (wentRight n b l ∷ w) = (b ≤ k) × NotPast k w
-
   -- up the way: where it went right, the leftmost leaf of the left side may match
   abbrev pub climb : ℕ → ℕ → List (Step N P) → Option (Route P) → Option (Route P)
   climb W d [] o = o

@@ -1,4 +1,5 @@
 pub mod Tree
 pub mod Obeys
+pub mod Good
 pub mod Way
 pub mod Size

@@ -1,5 +1,6 @@
 -- The way down a tree by a destination's bits.
-use Prim.Native.Nat.{ℕ, zero, suc}
+use Prim.Native.Nat.{ℕ, zero, suc, _≤_}
+use mathlib.Core.Path.{_≡_}
 use mathlib.Core.List.{List, [], _∷_}
 use mathlib.Core.Option.{none, some}
 use Rattle.bits.specs.Address.{bit}
@@ -11,6 +12,11 @@ toward zero l r = l
 toward (suc n) l r = r
 
 module _ {N P : Type 0} where
+  -- The address of the leaf that x's bits lead to.
+  abbrev pub reached : ℕ → ℕ → Tree N P → ℕ
+  reached W x (leaf a es) = a
+  reached W x (node n b l r) = toward (bit W b x) (reached W x l) (reached W x r)
+
   -- How many inner nodes stand on a destination's path, from the tree alone.
   abbrev pub depth : ℕ → ℕ → Tree N P → ℕ
   depth W d (leaf a es) = 0
@@ -32,3 +38,15 @@ module _ {N P : Type 0} where
   plug [] t = t
   plug (wentLeft n b r ∷ w) t = plug w (node n b t r)
   plug (wentRight n b l ∷ w) t = plug w (node n b l t)
+
+  -- The way goes by d's bits.
+  abbrev pub Follows : ℕ → ℕ → List (Step N P) → Type 0
+  Follows W d [] = Unit {0}
+  Follows W d (wentLeft n b r ∷ w) = (bit W b d ≡ 0) × Follows W d w
+  Follows W d (wentRight n b l ∷ w) = (bit W b d ≡ 1) × Follows W d w
+
+  -- No bit on the way comes after k.
+  abbrev pub NotPast : ℕ → List (Step N P) → Type 0
+  NotPast k [] = Unit {0}
+  NotPast k (wentLeft n b r ∷ w) = (b ≤ k) × NotPast k w
+  NotPast k (wentRight n b l ∷ w) = (b ≤ k) × NotPast k w

@@ -10,8 +10,7 @@ use Rattle.bits.proofs.First.{bit-lt}
 use Rattle.bits.proofs.Cases.{eq-or-ne}
 use Rattle.patricia.specs.Tree.{node}
 use Rattle.patricia.specs.Obeys.{Grows}
-use Rattle.patricia.specs.Way.{Step, wentLeft, wentRight, plug}
-use Rattle.patricia.proofs.Zip.{Follows, NotPast}
+use Rattle.patricia.specs.Way.{Step, wentLeft, wentRight, plug, Follows, NotPast}
 use Rattle.pool.specs.Layout.{joint, markAt}
 use Rattle.pool.specs.Holds.{Seat, Seated}
 use Rattle.pool.specs.Fit.{Fit}

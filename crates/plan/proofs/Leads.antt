@@ -7,9 +7,11 @@ use native.Mathlib.Omega.{arith}
 use Rattle.model.specs.Prefix.{Prefix}
 use Rattle.model.specs.Routes.{Route, InOrder, find}
 use Rattle.model.specs.Ipv4.{Hop}
+use Rattle.patricia.specs.Way.{reached}
+use Rattle.patricia.specs.Good.{Good}
 use Rattle.patricia.specs.Tree.{Tree, leaf, hung, routes}
-use Rattle.patricia.proofs.Form.{Good, routes-in-order}
-use Rattle.patricia.proofs.Find.{reached, findIn, find-in}
+use Rattle.patricia.proofs.Form.{routes-in-order}
+use Rattle.patricia.proofs.Find.{findIn, find-in}
 use Rattle.patricia.proofs.Zip.{find-plug, reached-plug}
 use Rattle.pool.specs.Layout.{word, seat, rootIn, prefixAt}
 use Rattle.pool.specs.Link.{toRoute}

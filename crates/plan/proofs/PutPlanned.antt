@@ -8,11 +8,10 @@ use lib.ListN.{length}
 use Rattle.bits.specs.Address.{Part}
 use Rattle.model.specs.Prefix.{Prefix}
 use Rattle.model.specs.Routes.{find}
+use Rattle.patricia.specs.Good.{Good}
 use Rattle.patricia.specs.Tree.{Entry, leaf, routes}
 use Rattle.patricia.specs.Obeys.{LongestFirst}
-use Rattle.patricia.specs.Way.{plug}
-use Rattle.patricia.proofs.Form.{Good}
-use Rattle.patricia.proofs.Find.{reached}
+use Rattle.patricia.specs.Way.{plug, reached}
 use Rattle.pool.specs.Layout.{rootIn, seat, prefixAt}
 use Rattle.pool.specs.Holds.{Seat, Seated, bare, Holds}
 use Rattle.pool.specs.declared.link.Place.{Place}

@@ -10,10 +10,9 @@ use Rattle.bits.specs.Address.{bit}
 use Rattle.model.specs.Prefix.{Prefix}
 use Rattle.model.specs.Routes.{Route, find}
 use Rattle.model.specs.Ipv4.{Hop}
+use Rattle.patricia.specs.Good.{Good}
 use Rattle.patricia.specs.Tree.{Entry, leaf, routes}
-use Rattle.patricia.specs.Way.{Step, wentLeft, wentRight, plug, toward}
-use Rattle.patricia.proofs.Form.{Good}
-use Rattle.patricia.proofs.Zip.{Follows}
+use Rattle.patricia.specs.Way.{Step, wentLeft, wentRight, plug, toward, Follows}
 use Rattle.pool.specs.Layout.{word, seat, rootIn, nextAt, markAt, leftAt, rightAt}
 use Rattle.pool.specs.Holds.{Seat, Seated, bare, chainPlaces, Chain, Holds}
 use Rattle.pool.specs.Means.{Among}

@@ -6,12 +6,10 @@ use mathlib.Core.Option.{none}
 use Rattle.bits.specs.Address.{Part}
 use Rattle.model.specs.Prefix.{Prefix}
 use Rattle.model.specs.Routes.{find}
+use Rattle.patricia.specs.Good.{Good}
 use Rattle.patricia.specs.Tree.{Entry, leaf, routes}
 use Rattle.patricia.specs.Obeys.{Grows, Shorter}
-use Rattle.patricia.specs.Way.{Step, plug}
-use Rattle.patricia.proofs.Form.{Good}
-use Rattle.patricia.proofs.Find.{reached}
-use Rattle.patricia.proofs.Zip.{Follows, NotPast}
+use Rattle.patricia.specs.Way.{Step, plug, reached, Follows, NotPast}
 use Rattle.pool.specs.Layout.{rootIn}
 use Rattle.pool.specs.Holds.{Seat, Seated, bare, Holds}
 use Rattle.plan.specs.Cells.{cellOf, endCell, Longer, placeOf, siblingLink}

@@ -8,11 +8,10 @@ use lib.ListN.{length}
 use Rattle.model.specs.Prefix.{Prefix}
 use Rattle.model.specs.Routes.{Route, find}
 use Rattle.model.specs.Ipv4.{Hop}
+use Rattle.patricia.specs.Good.{Good}
 use Rattle.patricia.specs.Tree.{Entry, routes}
 use Rattle.patricia.specs.Obeys.{LongestFirst}
-use Rattle.patricia.specs.Way.{Step, plug}
-use Rattle.patricia.proofs.Form.{Good}
-use Rattle.patricia.proofs.Zip.{Follows}
+use Rattle.patricia.specs.Way.{Step, plug, Follows}
 use Rattle.pool.specs.Layout.{word, rootIn}
 use Rattle.pool.specs.Link.{toRoute}
 use Rattle.pool.specs.Holds.{Seat, Seated, bare, Chain, Holds}

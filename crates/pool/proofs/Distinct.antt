@@ -4,9 +4,10 @@ use mathlib.Core.Path.{_≡_, refl, sym, ap, subst, _∙_}
 use mathlib.Core.List.{List, [], _∷_, _++_}
 use mathlib.Core.Logic.{_⊎_, inl, inr, ⊎-elim}
 use native.Mathlib.Omega.{arith}
+use Rattle.patricia.specs.Good.{Good, Joint}
 use Rattle.patricia.specs.Tree.{Entry, leaf, node, Under}
 use Rattle.patricia.specs.Obeys.{Shorter, LongestFirst, Grows}
-use Rattle.patricia.proofs.Form.{Good, Joint, joint-left, joint-right, lowest, lowest-under}
+use Rattle.patricia.proofs.Form.{joint-left, joint-right, lowest, lowest-under}
 use Rattle.pool.specs.Layout.{seat, nextAt, prefixAt, markAt, leftAt, rightAt}
 use Rattle.pool.specs.Link.{toInner}
 use Rattle.pool.specs.Holds.{Seat, Seated, bareEntries, bare, Chain, Holds, chainPlaces, routePlaces, innerPlaces}

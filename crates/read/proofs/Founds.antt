@@ -12,8 +12,9 @@ use Rattle.model.specs.Match.{best}
 use Rattle.model.specs.Ipv4.{Hop}
 use Rattle.model.specs.State.{State, Meaning}
 use Rattle.model.specs.Call.{Call, first, after, nothing, found, number, accepted, value, next}
+use Rattle.patricia.specs.Good.{RootGood}
 use Rattle.patricia.specs.Tree.{Root, rootRoutes}
-use Rattle.patricia.proofs.Form.{RootGood, root-obeys-good}
+use Rattle.patricia.proofs.Form.{root-obeys-good}
 use Rattle.pool.specs.Layout.{rules, size, capacityIn, rootIn}
 use Rattle.pool.specs.Holds.{Seat, bareRoot, HoldsRoot}
 use Rattle.pool.specs.Means.{Means}

@@ -8,9 +8,8 @@ use lib.ListN.{length}
 use Rattle.model.specs.Ipv4.{Hop}
 use Rattle.patricia.specs.Tree.{Entry, Tree, leaf, node}
 use Rattle.patricia.specs.Obeys.{Shorter, LongestFirst, Grows}
-use Rattle.patricia.specs.Way.{depth, Step, wentLeft, wentRight, plug}
+use Rattle.patricia.specs.Way.{depth, Step, wentLeft, wentRight, plug, Follows}
 use Rattle.patricia.proofs.Form.{side}
-use Rattle.patricia.proofs.Zip.{Follows}
 use Rattle.pool.specs.Holds.{Seat, Seated, bare, bareEntries}
 use Rattle.search.specs.Seen.{Starts}
 

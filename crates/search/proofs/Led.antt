@@ -3,10 +3,10 @@ use Prim.Native.Nat.{ℕ}
 use mathlib.Core.Path.{_≡_, sym, ap, subst, _∙_}
 use mathlib.Core.List.{List, _∷_}
 use native.Mathlib.Omega.{arith}
+use Rattle.patricia.specs.Good.{Good}
 use Rattle.patricia.specs.Tree.{leaf}
 use Rattle.patricia.specs.Obeys.{LeafObeys, LongestFirst}
 use Rattle.patricia.specs.Way.{plug}
-use Rattle.patricia.proofs.Form.{Good}
 use Rattle.patricia.proofs.Zip.{good-part}
 use Rattle.pool.specs.Link.{toRoute}
 use Rattle.pool.specs.Holds.{Seated, bare, bareEntries, Chain}

@@ -9,10 +9,10 @@ use lib.ListN.{length, getD, set}
 use lib.Seq.{getD-set-same, getD-set-other}
 use Rattle.bits.specs.Address.{bit}
 use Rattle.bits.proofs.Cases.{eq-or-ne}
+use Rattle.patricia.specs.Good.{Good}
 use Rattle.patricia.specs.Tree.{leaf, node}
-use Rattle.patricia.specs.Way.{toward, depth, Step, wentLeft, wentRight, plug}
-use Rattle.patricia.proofs.Form.{side, Good}
-use Rattle.patricia.proofs.Zip.{Follows}
+use Rattle.patricia.specs.Way.{toward, depth, Step, wentLeft, wentRight, plug, Follows}
+use Rattle.patricia.proofs.Form.{side}
 use Rattle.pool.specs.Layout.{rootIn, markAt, leftAt, rightAt}
 use Rattle.pool.specs.Link.{toRoute, toInner}
 use Rattle.pool.specs.Holds.{Seat, Seated, bare, Holds}

@@ -5,9 +5,9 @@ use mathlib.Core.List.{List, [], _∷_}
 use mathlib.Core.Logic.{⊎-elim}
 use native.Mathlib.Omega.{arith}
 use Rattle.bits.proofs.Cases.{eq-or-ne}
+use Rattle.patricia.specs.Good.{Good}
 use Rattle.patricia.specs.Tree.{leaf, node}
 use Rattle.patricia.specs.Way.{toward}
-use Rattle.patricia.proofs.Form.{Good}
 use Rattle.pool.specs.Layout.{markAt}
 use Rattle.pool.specs.Link.{linkFrom, toRoute, toInner}
 use Rattle.pool.specs.Holds.{Seated, bare, Holds}

@@ -10,10 +10,11 @@ use Rattle.model.specs.Prefix.{Prefix, same, before}
 use Rattle.model.specs.Routes.{Route, find, present, nextAfter}
 use Rattle.model.specs.Ipv4.{Hop}
 use Rattle.model.specs.State.{State}
+use Rattle.patricia.specs.Good.{Good, RootGood}
 use Rattle.patricia.specs.Tree.{Entry, Tree, leaf, node, Root, hung, routes, rootRoutes}
 use Rattle.patricia.specs.Obeys.{LongestFirst}
 use Rattle.patricia.specs.Way.{Step, wentLeft, wentRight, plug}
-use Rattle.patricia.proofs.Form.{Good, RootGood, root-obeys-good}
+use Rattle.patricia.proofs.Form.{root-obeys-good}
 use Rattle.patricia.proofs.Zip.{find-plug}
 use Rattle.patricia.proofs.Find.{findIn, find-in}
 use Rattle.pool.specs.Layout.{seat, rootIn, nextAt, prefixAt}

@@ -3,10 +3,9 @@ use Prim.Native.Nat.{ℕ, _≤_, _<_}
 use mathlib.Core.Path.{_≡_}
 use mathlib.Core.List.{List, [], _∷_}
 use lib.ListN.{length, getD}
+use Rattle.patricia.specs.Good.{Good}
 use Rattle.patricia.specs.Tree.{Entry, leaf}
-use Rattle.patricia.specs.Way.{depth, Step, wentLeft, wentRight, plug}
-use Rattle.patricia.proofs.Form.{Good}
-use Rattle.patricia.proofs.Zip.{Follows}
+use Rattle.patricia.specs.Way.{depth, Step, wentLeft, wentRight, plug, Follows}
 use Rattle.pool.specs.Layout.{rootIn, markAt}
 use Rattle.pool.specs.Link.{toRoute}
 use Rattle.pool.specs.Holds.{Seat, Seated, bare, Chain, Holds}

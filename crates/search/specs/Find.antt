@@ -7,9 +7,9 @@ use mathlib.Core.Option.{Option, none, some}
 use Rattle.model.specs.Prefix.{Prefix, same, before}
 use Rattle.model.specs.Routes.{Route, find}
 use Rattle.model.specs.Ipv4.{Hop}
+use Rattle.patricia.specs.Good.{Good}
 use Rattle.patricia.specs.Tree.{Entry, hung, routes}
 use Rattle.patricia.specs.Obeys.{LongestFirst}
-use Rattle.patricia.proofs.Form.{Good}
 use Rattle.pool.specs.Layout.{rootIn, routeAt}
 use Rattle.pool.specs.Link.{toRoute}
 use Rattle.pool.specs.Holds.{Seat, Seated, bare, bareEntries, chainPlaces, routePlaces, Chain, Holds}

@@ -2,8 +2,8 @@
 use Prim.Native.Nat.{ℕ, suc, _≤_, _<_}
 use mathlib.Core.Path.{_≡_}
 use mathlib.Core.List.{List}
+use Rattle.patricia.specs.Good.{Good}
 use Rattle.patricia.specs.Tree.{leaf, node}
-use Rattle.patricia.proofs.Form.{Good}
 use Rattle.pool.specs.Layout.{markAt}
 use Rattle.pool.specs.Link.{toRoute, toInner}
 use Rattle.pool.specs.Holds.{Seated, bare, Holds}

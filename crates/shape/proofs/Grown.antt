@@ -12,9 +12,10 @@ use Rattle.bits.proofs.First.{first-mono, first-lt}
 use Rattle.model.specs.Ipv4.{Hop}
 use Rattle.model.specs.Routes.{Route}
 use Rattle.model.specs.Lawful.{AllObey}
+use Rattle.patricia.specs.Good.{All, Joint, Good}
 use Rattle.patricia.specs.Tree.{Entry, Tree, leaf, node, Root, routes}
 use Rattle.patricia.specs.Obeys.{Grows}
-use Rattle.patricia.proofs.Form.{All, all-under, under-all, Joint, Good, obeys-good, good-obeys}
+use Rattle.patricia.proofs.Form.{all-under, under-all, obeys-good, good-obeys}
 use Rattle.pool.specs.Layout.{rules, rootIn, markAt, leftAt, rightAt}
 use Rattle.pool.specs.Link.{toRoute, toInner}
 use Rattle.pool.specs.Holds.{Seat, Seated, bare, chainPlaces, routePlaces, innerPlaces, Holds}

@@ -13,11 +13,12 @@ use Rattle.model.specs.Routes.{Route, AllAfter, firstOf, nextAfter}
 use Rattle.model.proofs.Order.{behind-not-before}
 use Rattle.model.proofs.Walk.{next-front}
 use Rattle.model.proofs.Append.{held-append, AllBefore}
+use Rattle.patricia.specs.Good.{Good}
 use Rattle.patricia.specs.Tree.{Tree, node, routes, Under}
-use Rattle.patricia.specs.Way.{Step, wentLeft, wentRight, plug}
-use Rattle.patricia.proofs.Form.{all-under, Good, after-right, before-left}
+use Rattle.patricia.specs.Way.{Step, wentLeft, wentRight, plug, NotPast}
+use Rattle.patricia.proofs.Form.{all-under, after-right, before-left}
 use Rattle.patricia.proofs.Search.{orElse}
-use Rattle.patricia.proofs.Zip.{NotPast, good-part}
+use Rattle.patricia.proofs.Zip.{good-part}
 
 module _ {P : Type 0} where
   -- ---- lists, one behind the other

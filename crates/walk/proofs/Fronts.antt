@@ -13,10 +13,10 @@ use Rattle.route.specs.Means as means
 use Rattle.route.specs.declared.hop.Route as source
 use Rattle.route.specs.declared.answer.Found as found
 use Rattle.route.specs.declared.answer.Refusal.the-variants.{NotSound, NoFurther}
+use Rattle.patricia.specs.Good.{Good, RootGood}
 use Rattle.patricia.specs.Tree.{leaf, node, Root, routeOf, routes, rootRoutes}
-use Rattle.patricia.specs.Way.{Step, wentLeft, wentRight}
-use Rattle.patricia.proofs.Form.{Good, RootGood, routes-some}
-use Rattle.patricia.proofs.Zip.{Follows}
+use Rattle.patricia.specs.Way.{Step, wentLeft, wentRight, Follows}
+use Rattle.patricia.proofs.Form.{routes-some}
 use Rattle.pool.specs.Layout.{rootIn, rightAt, routeAt}
 use Rattle.pool.specs.Holds.{Seat, Seated, bare, bareRoot, Holds, HoldsRoot}
 use Rattle.pool.specs.declared.link.Place.{Place}

@@ -20,9 +20,10 @@ use Rattle.route.specs.Means as means
 use Rattle.route.specs.declared.hop.Route as source
 use Rattle.route.specs.declared.answer.Found as found
 use Rattle.route.specs.declared.answer.Refusal.the-variants.{NotSound, NoFurther}
+use Rattle.patricia.specs.Good.{All, Good, RootGood}
 use Rattle.patricia.specs.Tree.{Tree, leaf, Root, hung, routes, rootRoutes}
 use Rattle.patricia.specs.Way.{Step, plug}
-use Rattle.patricia.proofs.Form.{all-under, All, Good, RootGood, held-under, routes-some}
+use Rattle.patricia.proofs.Form.{all-under, held-under, routes-some}
 use Rattle.patricia.proofs.Search.{orElse}
 use Rattle.pool.specs.Layout.{seat, rootIn, prefixAt, routeAt}
 use Rattle.pool.specs.Link.{toRoute, toInner}

@@ -10,10 +10,11 @@ use Rattle.bits.specs.Address.{first, bit}
 use Rattle.bits.proofs.Cases.{eq-or-ne}
 use Rattle.bits.proofs.First.{first-fewer}
 use Rattle.model.specs.Ipv4.{Hop}
+use Rattle.patricia.specs.Good.{All, Joint, Good}
 use Rattle.patricia.specs.Tree.{Tree, leaf, node, Under}
-use Rattle.patricia.specs.Way.{Step, wentLeft, wentRight, plug}
-use Rattle.patricia.proofs.Form.{All, under-all, Joint, joint-left, joint-right, joint-share, Good}
-use Rattle.patricia.proofs.Zip.{Follows, not-past}
+use Rattle.patricia.specs.Way.{Step, wentLeft, wentRight, plug, Follows}
+use Rattle.patricia.proofs.Form.{under-all, joint-left, joint-right, joint-share}
+use Rattle.patricia.proofs.Zip.{not-past}
 use Rattle.pool.specs.Layout.{markAt}
 use Rattle.pool.specs.Link.{toInner}
 use Rattle.pool.specs.Holds.{Seat, Seated, bare, Holds}

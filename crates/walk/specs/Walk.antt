@@ -7,8 +7,8 @@ use lib.ListN.{getD}
 use Rattle.bits.specs.Address.{Part}
 use Rattle.model.specs.Prefix.{Prefix}
 use Rattle.model.specs.Routes.{firstOf, nextAfter}
+use Rattle.patricia.specs.Good.{Good, RootGood}
 use Rattle.patricia.specs.Tree.{Root, routes, rootRoutes}
-use Rattle.patricia.proofs.Form.{Good, RootGood}
 use Rattle.pool.specs.Layout.{seat, rootIn, markAt, rightAt, prefixAt}
 use Rattle.pool.specs.Holds.{Seat, Seated, bare, bareRoot, Holds, HoldsRoot}
 use Rattle.route.specs.declared.answer.Found.{Found}
