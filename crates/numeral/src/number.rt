@@ -1,5 +1,8 @@
 ghost use mathlib.Core.Path.{_≡_};
+ghost use Prim.Native.Nat.{_≤_};
+ghost use lib.ListN.{length};
 ghost use Rattle.numeral.specs.Decimal.{ReadAs};
+ghost use Rattle.numeral.specs.Octets.{OctetAt, NextAt, ReadAddress};
 use super::word::after;
 use super::word::word_at;
 use super::wrong::Fault;
@@ -55,10 +58,10 @@ pub fn decimal(s: &[u8]) -> Number
 }
 
 // One octet more, from a place up to the next dot or the end.
-fn octet(s: &[u8], from: usize, so_far: u32) -> Octets {
-    if s.len() < from {
-        return Octets::Bad;
-    }
+fn octet(s: &[u8], from: usize, before: u32) -> Octets
+    requires { ⌜ (from ≤ length (now s)) × (before ≤ 16777215) ⌝ }
+    ensures { λ r. ⌜ OctetAt (now (s .entry)) from before r ⌝ }
+{
     let end = bytes::scan::find(s, from, s.len(), b'.');
     let Number::Value(n) = decimal(&s[from..end]) else {
         return Octets::Bad;
@@ -66,19 +69,24 @@ fn octet(s: &[u8], from: usize, so_far: u32) -> Octets {
     if 255 < n {
         return Octets::Bad;
     }
-    Octets::Value((so_far << 8) | n, end)
+    Octets::Value(before * 256 + n, end)
 }
 
 // One octet more, behind the dot that must stand at a place.
-fn next_octet(s: &[u8], dot: usize, so_far: u32) -> Octets {
+fn next_octet(s: &[u8], dot: usize, before: u32) -> Octets
+    requires { ⌜ before ≤ 16777215 ⌝ }
+    ensures { λ r. ⌜ NextAt (now (s .entry)) dot before r ⌝ }
+{
     if s.len() <= dot {
         return Octets::Bad;
     }
-    octet(s, dot + 1, so_far)
+    octet(s, dot + 1, before)
 }
 
 // Four octets with dots between them, and nothing behind.
-pub fn address(s: &[u8]) -> Number {
+pub fn address(s: &[u8]) -> Number
+    ensures { λ r. ⌜ ReadAddress (now (s .entry)) r ⌝ }
+{
     let Octets::Value(a, i) = octet(s, 0, 0) else {
         return Number::Bad;
     };

@@ -10,11 +10,11 @@ use Rattle.promise.specs.Promise.{Promise}
 use Rattle.command.specs.declared.asked.Command.{Command}
 use Rattle.command.proofs.asked.Command as command
 use Rattle.perform.specs.declared.Changed.{Changed}
-use Rattle.perform.specs.Does.{Calls, Does}
+use Rattle.perform.specs.Performs.{Calls, Performs}
 
 -- once the command is known
-pub known : {k k' : Command} (ws zs : List ℕ) (r : Changed) → k ≡ k' → Does k' ws zs r → Does k ws zs r
-known ws zs r e d = subst (λ (x : Command). Does x ws zs r) (sym e) d
+pub known : {k k' : Command} (ws zs : List ℕ) (r : Changed) → k ≡ k' → Performs k' ws zs r → Performs k ws zs r
+known ws zs r e d = subst (λ (x : Command). Performs x ws zs r) (sym e) d
 
 -- the number of a call
 pub calls : {c : call.Call ipv4.Hop} {ws zs : List ℕ} {n m : ℕ} → n ≡ m → Promise c ws zs m call.nothing → Calls c ws zs (Changed.Number n)
@@ -24,7 +24,7 @@ calls {m = m} e p = (m, ap Changed.Number e, p)
 abbrev pub asking : List ℕ
 asking = 0 ∷ 5 ∷ 6 ∷ 7 ∷ 8 ∷ 9 ∷ 14 ∷ 15 ∷ 16 ∷ 17 ∷ 19 ∷ []
 
-pub keeps : (ws : List ℕ) (k : Command) → OneOf asking (enum.Declared.tagOf command.the-type k) → Does k ws ws Changed.Nothing
+pub keeps : (ws : List ℕ) (k : Command) → OneOf asking (enum.Declared.tagOf command.the-type k) → Performs k ws ws Changed.Nothing
 keeps ws Command.Nothing h = (refl, refl)
 keeps ws (Command.Fresh c) h = absurd (miss asking 1 tt h)
 keeps ws (Command.Add r) h = absurd (miss asking 2 tt h)

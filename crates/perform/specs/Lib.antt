@@ -1,1 +1,1 @@
-pub mod Does
+pub mod Performs

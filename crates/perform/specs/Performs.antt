@@ -28,24 +28,24 @@ abbrev pub Keeps : List ℕ → List ℕ → Changed → Type 0
 Keeps ws zs r = (r ≡ Changed.Nothing) × (zs ≡ ws)
 
 -- What a command does to the words, and what is answered to that.
-abbrev pub Does : Command → List ℕ → List ℕ → Changed → Type 0
-Does (Command.Fresh c) = Begins c
-Does (Command.Add r) = Calls (call.add (routeOf r))
-Does (Command.Delete p) = Calls (call.delete (prefixOf p))
-Does (Command.Change r) = Calls (call.change (routeOf r))
-Does Command.Open = Calls call.openTrial
-Does Command.Keep = Calls call.keep
-Does Command.Back = Calls call.backOut
-Does Command.Step = Calls call.stepBack
-Does (Command.Poke i v) = Pokes i v
-Does Command.Nothing = Keeps
-Does (Command.Lookup d) = Keeps
-Does Command.First = Keeps
-Does (Command.Next p) = Keeps
-Does Command.Room = Keeps
-Does (Command.Mask m) = Keeps
-Does Command.Sound = Keeps
-Does Command.List = Keeps
-Does (Command.Words c) = Keeps
-Does (Command.Peek i) = Keeps
-Does (Command.Wrong f) = Keeps
+abbrev pub Performs : Command → List ℕ → List ℕ → Changed → Type 0
+Performs (Command.Fresh c) = Begins c
+Performs (Command.Add r) = Calls (call.add (routeOf r))
+Performs (Command.Delete p) = Calls (call.delete (prefixOf p))
+Performs (Command.Change r) = Calls (call.change (routeOf r))
+Performs Command.Open = Calls call.openTrial
+Performs Command.Keep = Calls call.keep
+Performs Command.Back = Calls call.backOut
+Performs Command.Step = Calls call.stepBack
+Performs (Command.Poke i v) = Pokes i v
+Performs Command.Nothing = Keeps
+Performs (Command.Lookup d) = Keeps
+Performs Command.First = Keeps
+Performs (Command.Next p) = Keeps
+Performs Command.Room = Keeps
+Performs (Command.Mask m) = Keeps
+Performs Command.Sound = Keeps
+Performs Command.List = Keeps
+Performs (Command.Words c) = Keeps
+Performs (Command.Peek i) = Keeps
+Performs (Command.Wrong f) = Keeps

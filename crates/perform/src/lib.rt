@@ -1,5 +1,5 @@
 // What a command does to the words of a pool, before any of it is told.
-ghost use Rattle.perform.specs.Does.{Pokes, Does};
+ghost use Rattle.perform.specs.Performs.{Pokes, Performs};
 use command::Command;
 
 // What is to be told of a command: the number of a call, that a poke was outside the buffer, or nothing that a change has to say.
@@ -22,7 +22,7 @@ fn poke(words: &mut [u32], index: u32, value: u32) -> Changed
 
 // A change is made and answered by a number; a command that only asks leaves the words alone.
 pub fn change(words: &mut [u32], command: Command) -> Changed
-    ensures { λ r. ⌜ Does command (now (words .entry)) (now (words .exit)) r ⌝ }
+    ensures { λ r. ⌜ Performs command (now (words .entry)) (now (words .exit)) r ⌝ }
 {
     match command {
         Command::Fresh(capacity) => Changed::Number(table::fresh(words, capacity).number()),
