@@ -1,4 +1,3 @@
-ghost use Rattle.session.specs.Obeyed.{Obeyed};
 use command::Command;
 use numeral::Fault;
 use perform::Changed;
@@ -57,9 +56,7 @@ fn answer(words: &Words, command: Command, changed: Changed, line: u64) {
 }
 
 // A whole line: it is done, and answered if answers are wanted.
-fn obey(words: &mut Words, line: &Line, at: Input, answers: bool)
-    ensures { λ _. ⌜ Obeyed (now (words .entry)) (now (words .exit)) ⌝ }
-{
+fn obey(words: &mut Words, line: &Line, at: Input, answers: bool) {
     let length = trimmed(line, at.length);
     let command = command_of(line, length);
     let changed = perform::change(words, command);
@@ -69,9 +66,7 @@ fn obey(words: &mut Words, line: &Line, at: Input, answers: bool)
 }
 
 // One byte more of the input.
-fn take(words: &mut Words, line: &mut Line, at: Input, byte: u8, answers: bool) -> Input
-    ensures { λ _. ⌜ Obeyed (now (words .entry)) (now (words .exit)) ⌝ }
-{
+fn take(words: &mut Words, line: &mut Line, at: Input, byte: u8, answers: bool) -> Input {
     if byte == b'\n' {
         obey(words, line, at, answers);
         return Input {
@@ -88,9 +83,13 @@ fn take(words: &mut Words, line: &mut Line, at: Input, byte: u8, answers: bool) 
 }
 
 // A block of the input.
-fn take_all(words: &mut Words, line: &mut Line, start: Input, block: &[u8], answers: bool) -> Input
-    ensures { λ _. ⌜ Obeyed (now (words .entry)) (now (words .exit)) ⌝ }
-{
+fn take_all(
+    words: &mut Words,
+    line: &mut Line,
+    start: Input,
+    block: &[u8],
+    answers: bool,
+) -> Input {
     let mut at = start;
     let mut i = 0;
     while i < block.len() {
@@ -101,9 +100,7 @@ fn take_all(words: &mut Words, line: &mut Line, start: Input, block: &[u8], answ
 }
 
 // One read. At the end of the input, or where it fails, the input is no longer open.
-fn read_some(words: &mut Words, line: &mut Line, at: Input, answers: bool) -> Input
-    ensures { λ _. ⌜ Obeyed (now (words .entry)) (now (words .exit)) ⌝ }
-{
+fn read_some(words: &mut Words, line: &mut Line, at: Input, answers: bool) -> Input {
     let mut block = [0u8; 512];
     let got = libc::read(0, &mut block);
     if got <= 0 {
@@ -118,9 +115,7 @@ fn read_some(words: &mut Words, line: &mut Line, at: Input, answers: bool) -> In
 }
 
 // A proved loop has to end, and nothing says that the input does: the turns are counted down from a number that no run uses up.
-fn read_all(words: &mut Words, line: &mut Line, answers: bool) -> Input
-    ensures { λ _. ⌜ Obeyed (now (words .entry)) (now (words .exit)) ⌝ }
-{
+fn read_all(words: &mut Words, line: &mut Line, answers: bool) -> Input {
     let mut at = Input {
         length: 0,
         number: 1,
@@ -134,11 +129,10 @@ fn read_all(words: &mut Words, line: &mut Line, answers: bool) -> Input
     at
 }
 
-// Every command of standard input, one a line. A last line without a newline counts. Which commands they are no contract can
-// say, since none can speak of what is read.
-pub fn run(words: &mut Words, answers: bool)
-    ensures { λ _. ⌜ Obeyed (now (words .entry)) (now (words .exit)) ⌝ }
-{
+// Every command of standard input, one a line. A last line without a newline counts. What a command does to the words is promised
+// where it is done (`perform::change`). Of a whole run nothing is: no contract can say which commands are read, and a row of
+// them with `poke` among them can leave any words.
+pub fn run(words: &mut Words, answers: bool) {
     let mut line = [0u8; 201];
     let at = read_all(words, &mut line, answers);
     if 0 < at.length {

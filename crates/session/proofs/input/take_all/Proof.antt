@@ -1,20 +1,18 @@
--- The measure is the bytes still to take.
-use Prim.Native.Nat.{_-_}
+-- Nothing is claimed of the words, so the invariant is empty. The measure is the bytes still to take.
 use borrow.Author.Needs.{needs}
+use Prim.Native.Nat.{_-_}
 use lib.ListN.{length}
-use Rattle.session.specs.Obeyed.{Obeyed, none}
-use Rattle.session.proofs.Runs.{then}
 use Rattle.session.proofs.input.take_all.Statement.{statement}
 use Rattle.session.proofs.input.take_all.Tie as tie
 
 abbrev Inv-loop : tie.InvT-loop
-Inv-loop words₀ line₀ block answers at₀ i₀ words line at i = Obeyed words₀ words
+Inv-loop words₀ line₀ block answers at₀ i₀ words line at i = Unit
 
 abbrev μ-loop : tie.MeasureT-loop
 μ-loop words₀ line₀ block answers at₀ i₀ words line at i = length block - i
 
 loop-holds : tie.Need-loop-holds Inv-loop μ-loop
-loop-holds c = none
+loop-holds c = search needs
 
 shared-slice-read-take : tie.Need-shared-slice-read-take Inv-loop μ-loop
 shared-slice-read-take c = search needs
@@ -29,10 +27,10 @@ loop-less : tie.Need-loop-less Inv-loop μ-loop
 loop-less c = search needs
 
 loop-again : tie.Need-loop-again Inv-loop μ-loop
-loop-again c = then (c .before .before .before .before .before .loop .inv) (c .take .ensures)
+loop-again c = search needs
 
 returns : tie.Need-returns Inv-loop μ-loop
-returns c = c .before .loop .inv
+returns c = search needs
 
 pub take-all-spec : {M : Type 1} → statement M
 take-all-spec =
