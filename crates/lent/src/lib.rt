@@ -1,4 +1,4 @@
-// What lent words are before anything is done to them: whose capacity they say, and whether they are a sound pool.
+// What lent words are before anything is done to them: which capacity they say, and whether they are a sound pool.
 ghost use Rattle.lent.specs.Own.{OwnRight, TestedRight};
 
 // The capacity that a pool says, where it is one that a table may have and the words are enough for it.
