@@ -4,13 +4,13 @@ use mathlib.Core.Path.{_≡_, refl, sym, ap, _∙_}
 use mathlib.Core.List.{List}
 use native.Mathlib.Omega.{arith}
 use lib.ListN.{length, take, drop}
-use lib.Seq.{take-length}
 use Rattle.bytes.specs.Bytes.{indexOf, slice}
 use Rattle.numeral.specs.Decimal.{Spells, done, digit, ReadAs}
 use Rattle.numeral.specs.Octets.{Octet, Dotted, dotFrom, upToDot, OctetAt, NextAt}
 use Rattle.numeral.specs.declared.number.Number as number
 use Rattle.numeral.specs.declared.number.Octets as octets
-use Rattle.numeral.proofs.Dots.{next-there, last-there, with-next, with-last}
+use Rattle.numeral.proofs.Wording.{found-at}
+use Rattle.numeral.proofs.Dots.{Next, next-there, last-there, with-next, with-last}
 
 -- bytes spell one number
 spells-one : {v a b : ℕ} {s : List ℕ} → Spells v s a → Spells v s b → a ≡ b
@@ -21,8 +21,7 @@ spells-one (digit low high p) (digit low' high' q) = spells-one p q
 
 module _ (s : List ℕ) (from end : ℕ) (found : end ≡ from + indexOf 46 (slice from (length s) s)) where
   to-dot : end ≡ dotFrom s from
-  unfolding slice
-  to-dot = found ∙ ap (λ (t : List ℕ). from + indexOf 46 (drop from t)) (take-length s)
+  to-dot = found-at 46 s from end found
 
   piece : take (end - from) (drop from s) ≡ upToDot s from
   piece =
@@ -58,37 +57,40 @@ module _ (s : List ℕ) where
   none-first h n d = let x = next-there s 0 (dotFrom s 0) refl d in h (x .value) (x .front)
 
   module _ (a i : ℕ) (one : OctetAt s 0 0 (octets.Octets.Value a i)) where
+    -- what a row of four octets has behind the first dot, and so on
+    second : {n : ℕ} → Dotted 3 0 s n → Next s 0 2 0 i n
+    second d = next-there s 0 i (one .1) d
+
     pub none-second : NextAt s i a octets.Octets.Bad → (n : ℕ) → Dotted 3 0 s n → ⊥
     none-second h n d =
-        let x = next-there s 0 i (one .1) d in
+        let x = second d in
         let y = next-there s (i + 1) (dotFrom s (i + 1)) refl (x .behind) in
         h (x .inside) (y .value) (y .front)
 
     module _ (b j : ℕ) (two : NextAt s i a (octets.Octets.Value b j)) where
+      third : {n : ℕ} (d : Dotted 3 0 s n) → Next s (i + 1) 1 (0 * 256 + second d .value) j n
+      third d = next-there s (i + 1) j (two .1 .1) (second d .behind)
+
       pub none-third : NextAt s j b octets.Octets.Bad → (n : ℕ) → Dotted 3 0 s n → ⊥
       none-third h n d =
-          let x = next-there s 0 i (one .1) d in
-          let y = next-there s (i + 1) j (two .1 .1) (x .behind) in
+          let y = third d in
           let z = next-there s (j + 1) (dotFrom s (j + 1)) refl (y .behind) in
           h (y .inside) (z .value) (z .front)
 
       module _ (c k : ℕ) (three : NextAt s j b (octets.Octets.Value c k)) where
+        -- the last one, wherever it is said to end
+        fourth : (end : ℕ) → end ≡ dotFrom s (k + 1) → {n : ℕ} → Dotted 3 0 s n → (k < length s) × (end ≡ length s) × ((m : ℕ) × Octet (upToDot s (k + 1)) m)
+        fourth end e d =
+            let z = next-there s (j + 1) k (three .1 .1) (third d .behind) in
+            let w = last-there s (k + 1) end e (omega (arith, z .inside)) (z .behind) in
+            (z .inside, w .0, w .1)
+
         pub none-fourth : NextAt s k c octets.Octets.Bad → (n : ℕ) → Dotted 3 0 s n → ⊥
-        none-fourth h n d =
-            let x = next-there s 0 i (one .1) d in
-            let y = next-there s (i + 1) j (two .1 .1) (x .behind) in
-            let z = next-there s (j + 1) k (three .1 .1) (y .behind) in
-            let w = last-there s (k + 1) (dotFrom s (k + 1)) refl (omega (arith, z .inside)) (z .behind) in
-            h (z .inside) (w .1 .0) (w .1 .1)
+        none-fourth h n d = let w = fourth (dotFrom s (k + 1)) refl d in h (w .0) (w .2 .0) (w .2 .1)
 
         module _ (v end : ℕ) (four : NextAt s k c (octets.Octets.Value v end)) where
           pub more-behind : end < length s → (n : ℕ) → Dotted 3 0 s n → ⊥
-          more-behind h n d =
-              let x = next-there s 0 i (one .1) d in
-              let y = next-there s (i + 1) j (two .1 .1) (x .behind) in
-              let z = next-there s (j + 1) k (three .1 .1) (y .behind) in
-              let w = last-there s (k + 1) end (four .1 .1) (omega (arith, z .inside)) (z .behind) in
-              omega (arith, w .0, h)
+          more-behind h n d = omega (arith, fourth end (four .1 .1) d .1, h)
 
           pub address-read : length s ≤ end → Dotted 3 0 s v
           address-read h =

@@ -3,6 +3,8 @@ ghost use Prim.Native.Nat.{_≤_};
 ghost use lib.ListN.{length};
 ghost use Rattle.numeral.specs.Decimal.{ReadAs};
 ghost use Rattle.numeral.specs.Octets.{OctetAt, NextAt, ReadAddress};
+ghost use Rattle.numeral.specs.Words.{TakenAs, givenOf};
+ghost use Rattle.numeral.specs.declared.wrong.Fault as fault;
 use super::word::after;
 use super::word::word_at;
 use super::wrong::Fault;
@@ -105,26 +107,31 @@ pub fn address(s: &[u8]) -> Number
     Number::Value(d)
 }
 
-// The next word as a number.
-pub fn take_number(line: &[u8], from: usize) -> Taken {
-    let text = word_at(line, from);
-    if text.len() == 0 {
+// What was read of the next word, which ends before a place. An empty word says nothing, but that it is missing is told.
+fn given(word: &[u8], read: Number, bad: Fault, end: usize) -> Taken
+    ensures { λ r. ⌜ r ≡ givenOf (length (now (word .entry))) read bad end ⌝ }
+{
+    if word.len() == 0 {
         return Taken::Wrong(Fault::TooFewWords);
     }
-    match decimal(text) {
-        Number::Value(n) => Taken::Value(n, after(line, from)),
-        Number::Bad => Taken::Wrong(Fault::BadNumber),
+    match read {
+        Number::Value(n) => Taken::Value(n, end),
+        Number::Bad => Taken::Wrong(bad),
     }
 }
 
+// The next word as a number.
+pub fn take_number(line: &[u8], from: usize) -> Taken
+    ensures { λ r. ⌜ TakenAs ReadAs fault.Fault.BadNumber (now (line .entry)) from r ⌝ }
+{
+    let word = word_at(line, from);
+    given(word, decimal(word), Fault::BadNumber, after(line, from))
+}
+
 // The next word as an address.
-pub fn take_address(line: &[u8], from: usize) -> Taken {
-    let text = word_at(line, from);
-    if text.len() == 0 {
-        return Taken::Wrong(Fault::TooFewWords);
-    }
-    match address(text) {
-        Number::Value(n) => Taken::Value(n, after(line, from)),
-        Number::Bad => Taken::Wrong(Fault::BadAddress),
-    }
+pub fn take_address(line: &[u8], from: usize) -> Taken
+    ensures { λ r. ⌜ TakenAs ReadAddress fault.Fault.BadAddress (now (line .entry)) from r ⌝ }
+{
+    let word = word_at(line, from);
+    given(word, address(word), Fault::BadAddress, after(line, from))
 }
