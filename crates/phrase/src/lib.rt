@@ -1,4 +1,6 @@
-// The words of a line that stand for a prefix, a hop or a route.
+// The words of a line that stand for a prefix, a hop or a route. What a word is, and which number or address it says, is promised
+// in `numeral`. Which words make a prefix, a hop or a route is not promised here: stated in a contract, that grammar would be
+// this code again. The second program, written apart from it, is held to it.
 use check::same;
 use numeral::Fault;
 use numeral::Number;
@@ -71,6 +73,7 @@ fn with_mask(line: &[u8], text: &[u8], next: usize) -> TakenPrefix {
     }
 }
 
+// A prefix is a word with a slash, or an address with a mask behind it. It has no promise, as said above.
 pub fn take_prefix(line: &[u8], from: usize) -> TakenPrefix {
     let text = word_at(line, from);
     let next = after(line, from);
@@ -120,6 +123,7 @@ fn take_hop(line: &[u8], from: usize) -> TakenHop {
     TakenHop::Wrong(Fault::BadHop)
 }
 
+// A route is a prefix and a hop. It has no promise, as said above.
 pub fn take_route(line: &[u8], from: usize) -> TakenRoute {
     match take_prefix(line, from) {
         TakenPrefix::Value(prefix, next) => match take_hop(line, next) {

@@ -25,7 +25,7 @@ fn reason(fault: Fault) {
     }
 }
 
-// What is wrong with a line.
+// What is wrong with a line. It has no promise: no contract can speak of what is printed.
 pub fn wrong(line: u64, fault: Fault) {
     text(b"error: line ");
     io::print_decimal(1, line);
@@ -95,7 +95,8 @@ fn peek(words: &Words, index: u32, line: u64) {
     number_line(words[i]);
 }
 
-// The commands that only ask, and those that are none.
+// The commands that only ask, and those that are none. It has no promise: it is lent the words to read, which is why they stay as
+// they are, and no contract can speak of what is printed.
 pub fn asked(words: &Words, command: Command, line: u64) {
     match command {
         Command::Lookup(destination) => found(table::lookup(words, destination)),

@@ -15,7 +15,7 @@ pub(crate) fn number(n: u32) {
     io::print_decimal(1, n as u64);
 }
 
-// A number alone on its line.
+// A number alone on its line. It has no promise: no contract can speak of what is printed.
 pub fn number_line(n: u32) {
     number(n);
     byte(b'\n');
