@@ -1,25 +1,22 @@
 -- From an accepted call to the state that the words mean after it.
-use Prim.Native.Nat.{ℕ, zero, _≤_, _<_}
+use Prim.Native.Nat.{ℕ, _≤_, _<_}
 use mathlib.Core.Path.{_≡_, refl, sym, ap, subst, _∙_}
 use mathlib.Core.Bool.{false, cond}
 use mathlib.Core.List.{List, [], _∷_}
-use mathlib.Core.Option.{Option, none, some}
+use mathlib.Core.Option.{Option, some}
 use native.Mathlib.Omega.{arith}
 use borrow.Author.Tests.{eqb-false, not-false}
 use lib.Dec.{eqb}
 use lib.ListN.{length}
 use Rattle.model.specs.Prefix.{Prefix, wellFormed}
 use Rattle.model.specs.Routes.{Route, find, insert, remove, replace}
-use Rattle.model.specs.Ipv4.{Hop}
 use Rattle.model.specs.State.{State, Change, added, deleted, changed, Trial, closed, opened, changes, recordIn}
 use Rattle.model.specs.Call.{Call, add, delete, change, openTrial, keep, due, trialFull, done, next, withTrial, changeTo, deleteFrom, changeAt}
 use Rattle.model.proofs.Numbers.{Quiet, accepted-quiet}
 use Rattle.model.proofs.Tests.{both}
 use Rattle.model.proofs.Lawful.{LawfulMeaning, next-lawful, there, absent}
 use Rattle.model.proofs.Routes.{find-held}
-use Rattle.patricia.specs.Tree.{Root, rootRoutes}
-use Rattle.pool.specs.Layout.{rules, rootIn, trialIn, standingIn, hopAt, seat}
-use Rattle.pool.specs.Holds.{Seat, bareRoot, Holds, HoldsRoot, routePlaces}
+use Rattle.pool.specs.Layout.{Layout, trialIn, standingIn, heldPayload}
 use Rattle.pool.specs.declared.link.Place.{Place}
 use Rattle.pool.specs.Means.{Means, TrialThere, routesUsed}
 use Rattle.pool.proofs.Local.{recorded-length}
@@ -29,161 +26,165 @@ use Rattle.search.specs.declared.exact.Spot.the-variants as spot
 use Rattle.search.proofs.Spots.{means-spotted}
 use Rattle.edit.specs.Encodes.{Encodes, ToPut, ToTake}
 use Rattle.edit.proofs.Encodes.{means-encodes, encodes-means}
-use Rattle.edit.proofs.Stands.{stands}
-use Rattle.rows.specs.Writes.{writes, recordWrites, headWrites}
+use Rattle.pool.specs.Write.{writes}
+use Rattle.pool.proofs.Laid.{Laid}
+use Rattle.rows.specs.Writes.{recordWrites, headWrites}
 use Rattle.edit.proofs.Trials.{Says, says-added, says-deleted, says-changed, record-encodes, open-encodes, close-encodes}
 use Rattle.apply.specs.Does.{Accepts}
 use Rattle.apply.specs.Noted.{Noted}
 
--- ---- an accepted call
+module _ {P : Type 0} (L : Layout P) where
+  -- ---- an accepted call
 
--- what the model makes of the state
-pub next-done : (c : ℕ) (call : Call Hop) (ws : List ℕ) (s : State Hop) → Accepts c call ws s → next rules call (some s) ≡ done call (some s)
-next-done c call ws s a = ap (λ (n : ℕ). cond (eqb n 0) (done call (some s)) (some s)) (a .numberIs)
+  -- what the model makes of the state
+  pub next-done : (c : ℕ) (call : Call P) (ws : List ℕ) (s : State P) → Accepts L c call ws s → next (L .rules) call (some s) ≡ done call (some s)
+  next-done c call ws s a = ap (λ (n : ℕ). cond (eqb n 0) (done call (some s)) (some s)) (a .numberIs)
 
--- words that say the model's next state mean it: it is lawful
-pub does-of : (c : ℕ) (call : Call Hop) (ws zs : List ℕ) (s t : State Hop) → Accepts c call ws s → done call (some s) ≡ some t → Encodes zs t
-    → (t : State Hop) × (next rules call (some s) ≡ some t) × Means zs t
-does-of c call ws zs s t a e k =
-    let is : next rules call (some s) ≡ some t = next-done c call ws s a ∙ e in
-    (t, is, encodes-means zs t k (subst (LawfulMeaning rules) is (next-lawful rules call (some s) (a .means .lawful))))
+  -- words that say the model's next state mean it: it is lawful
+  pub does-of : (c : ℕ) (call : Call P) (ws zs : List ℕ) (s t : State P) → Accepts L c call ws s → done call (some s) ≡ some t → Encodes L zs t
+      → (t : State P) × (next (L .rules) call (some s) ≡ some t) × Means L zs t
+  does-of c call ws zs s t a e k =
+      let is : next (L .rules) call (some s) ≡ some t = next-done c call ws s a ∙ e in
+      (t, is, encodes-means L zs t k (subst (LawfulMeaning (L .rules)) is (next-lawful (L .rules) call (some s) (a .means .lawful))))
 
--- none of its lines holds
-pub lines : (c : ℕ) (call : Call Hop) (ws : List ℕ) (s : State Hop) → Accepts c call ws s → Quiet (due rules call (some s))
-lines c call ws s a = accepted-quiet rules call (some s) (ap (λ (n : ℕ). eqb n 0) (a .numberIs))
+  -- none of its lines holds
+  pub lines : (c : ℕ) (call : Call P) (ws : List ℕ) (s : State P) → Accepts L c call ws s → Quiet (due (L .rules) call (some s))
+  lines c call ws s a = accepted-quiet (L .rules) call (some s) (ap (λ (n : ℕ). eqb n 0) (a .numberIs))
 
--- ---- a change recorded
+  -- ---- the hop that a prefix has
 
--- a trial that isn't full has a free slot
-pub slot-free : (ws : List ℕ) (s : State Hop) → Encodes ws s → length (changes (s .trial)) ≤ 64 → trialFull rules s ≡ false → trialIn ws ≡ 1 → standingIn ws < 64
-slot-free ws s e few f one = go (s .trial) refl
-  where
-    go : (t : Trial Hop) → s .trial ≡ t → standingIn ws < 64
-    go closed is = let h : TrialThere (s .capacity) ws closed = subst (TrialThere (s .capacity) ws) is (e .trialThere) in absurd (omega (arith, h .0, one))
-    go (opened cs) is =
-        let h : TrialThere (s .capacity) ws (opened cs) = subst (TrialThere (s .capacity) ws) is (e .trialThere) in
-        let n = recorded-length (s .capacity) ws ws (standingIn ws) cs (h .1) in
-        let k : length cs ≤ 64 = subst (λ (t : Trial Hop). length (changes t) ≤ 64) is few in
-        let g : eqb (length cs) 64 ≡ false = rw is at f in
-        omega (arith, n, k, eqb-false (length cs) 64 g)
+  -- what the search found of a prefix that is there
+  pub found-there : (c : ℕ) (ws : List ℕ) (p : Prefix) (x : Spot) → Finds L c ws p x → (s : State P) → Means L ws s → s .capacity ≡ c → (r : Route P) → find p (s .routes) ≡ some r
+      → (places : List ℕ) × Spotted L ws places x (some r)
+  found-there c ws p x f s m ci r is = (routesUsed (m .tree), subst (Spotted L ws (routesUsed (m .tree)) x) is (means-spotted L c ws p x f s m ci))
 
-pub noted-encodes : (c action : ℕ) (p : Prefix) (old new : Hop) (x : Change Hop) (ws zs : List ℕ) (s : State Hop) → Says action p old new x → Encodes ws s → s .capacity ≡ c
-    → length (changes (s .trial)) ≤ 64 → trialFull rules s ≡ false → Noted c action p old new ws zs → Encodes zs (withTrial s (s .routes) (recordIn (s .trial) x))
-noted-encodes c action p old new x ws zs s says e ci few f k = go (s .trial) refl
-  where
-    go : (t : Trial Hop) → s .trial ≡ t → Encodes zs (withTrial s (s .routes) (recordIn (s .trial) x))
-    go closed is =
-        let h : TrialThere (s .capacity) ws closed = subst (TrialThere (s .capacity) ws) is (e .trialThere) in
-        let same = k .without (λ one. let z : _≡_ {A = ℕ} 0 1 = sym (h .0) ∙ one in absurd (omega (arith, z))) in
-        subst (λ (y : List ℕ). Encodes y (withTrial s (s .routes) (recordIn (s .trial) x))) (sym same)
-        (subst (λ (t : Trial Hop). Encodes ws (withTrial s (s .routes) t)) (is ∙ sym (ap (λ (t : Trial Hop). recordIn t x) is)) e)
-    go (opened cs) is =
-        let h : TrialThere (s .capacity) ws (opened cs) = subst (TrialThere (s .capacity) ws) is (e .trialThere) in
-        let kk : length cs ≤ 64 = subst (λ (t : Trial Hop). length (changes t) ≤ 64) is few in
-        let g : eqb (length cs) 64 ≡ false = rw is at f in
-        let room : length cs < 64 = omega (arith, kk, eqb-false (length cs) 64 g) in
-        let r = record-encodes ws s e cs is room action p old new x says in
-        subst (λ (t : Trial Hop). Encodes zs (withTrial s (s .routes) t)) (sym (ap (λ (t : Trial Hop). recordIn t x) is))
-        (subst (λ (y : List ℕ). Encodes y (withTrial s (s .routes) (opened (x ∷ cs)))) (sym (k .inTrial (h .0) ∙ ap (λ (n : ℕ). writes (recordWrites n (standingIn ws) action p old new) ws) (sym ci))) r)
+  pub hop-there : (c : ℕ) (ws : List ℕ) (p : Prefix) (i : Place) → Finds L c ws p (spot.At i) → (s : State P) → Means L ws s → s .capacity ≡ c → (r : Route P) → find p (s .routes) ≡ some r
+      → heldPayload L ws (i .0) ≡ r .payload
+  hop-there c ws p i f s m ci r is = ap (λ (x : Route P). x .payload) (found-there c ws p (spot.At i) f s m ci r is .1 .1)
 
--- ---- add
+  -- ---- a change recorded
 
-module _ (c : ℕ) (r : Route Hop) (ws : List ℕ) (s : State Hop) (a : Accepts c (add r) ws s) where
-  add-quiet : Quiet (due rules (add r) (some s))
-  add-quiet = lines c (add r) ws s a
+  -- a trial that isn't full has a free slot
+  pub slot-free : (ws : List ℕ) (s : State P) → Encodes L ws s → length (changes (s .trial)) ≤ L .rules .standing → trialFull (L .rules) s ≡ false → trialIn ws ≡ 1 → standingIn ws < L .rules .standing
+  slot-free ws s e few f one = go (s .trial) refl
+    where
+      go : (t : Trial P) → s .trial ≡ t → standingIn ws < L .rules .standing
+      go closed is = let h : TrialThere L (s .capacity) ws closed = subst (TrialThere L (s .capacity) ws) is (e .trialThere) in absurd (omega (arith, h .0, one))
+      go (opened cs) is =
+          let h : TrialThere L (s .capacity) ws (opened cs) = subst (TrialThere L (s .capacity) ws) is (e .trialThere) in
+          let n = recorded-length L (s .capacity) ws ws (standingIn ws) cs (h .1) in
+          let k : length cs ≤ L .rules .standing = subst (λ (t : Trial P). length (changes t) ≤ L .rules .standing) is few in
+          let g : eqb (length cs) (L .rules .standing) ≡ false = rw is at f in
+          omega (arith, n, k, eqb-false (length cs) (L .rules .standing) g)
 
-  pub add-to-put : ToPut c ws r s
-  add-to-put =
-      let q = add-quiet in
-      record {
-        encodes = means-encodes ws s (a .means);
-        capacityIs = a .capacityIs;
-        few = a .means .lawful .few;
-        formed = both (wellFormed 32 (r .prefix)) (rules .mayHold (r .prefix)) (not-false _ (q .1 .0)) .0;
-        absent = absent (r .prefix) (s .routes) (q .1 .1 .1 .0);
-        room = omega (arith, a .means .lawful .noMore, eqb-false (length (s .routes)) (s .capacity) (q .1 .1 .1 .1 .1 .0));
-      }
+module _ {P : Type 0} (L : Layout P) (laid : Laid L) where
+  -- what is noted is recorded, if a trial is open
+  pub noted-encodes : (c action : ℕ) (p : Prefix) (old new : P) (x : Change P) (ws zs : List ℕ) (s : State P) → Says L laid action p old new x → Encodes L ws s → s .capacity ≡ c
+      → length (changes (s .trial)) ≤ L .rules .standing → trialFull (L .rules) s ≡ false → Noted L c action p old new ws zs → Encodes L zs (withTrial s (s .routes) (recordIn (s .trial) x))
+  noted-encodes c action p old new x ws zs s says e ci few f k = go (s .trial) refl
+    where
+      go : (t : Trial P) → s .trial ≡ t → Encodes L zs (withTrial s (s .routes) (recordIn (s .trial) x))
+      go closed is =
+          let h : TrialThere L (s .capacity) ws closed = subst (TrialThere L (s .capacity) ws) is (e .trialThere) in
+          let same = k .without (λ one. let z : _≡_ {A = ℕ} 0 1 = sym (h .0) ∙ one in absurd (omega (arith, z))) in
+          subst (λ (y : List ℕ). Encodes L y (withTrial s (s .routes) (recordIn (s .trial) x))) (sym same)
+          (subst (λ (t : Trial P). Encodes L ws (withTrial s (s .routes) t)) (is ∙ sym (ap (λ (t : Trial P). recordIn t x) is)) e)
+      go (opened cs) is =
+          let h : TrialThere L (s .capacity) ws (opened cs) = subst (TrialThere L (s .capacity) ws) is (e .trialThere) in
+          let kk : length cs ≤ L .rules .standing = subst (λ (t : Trial P). length (changes t) ≤ L .rules .standing) is few in
+          let g : eqb (length cs) (L .rules .standing) ≡ false = rw is at f in
+          let room : length cs < L .rules .standing = omega (arith, kk, eqb-false (length cs) (L .rules .standing) g) in
+          let r = record-encodes L laid ws s e cs is room action p old new x says in
+          subst (λ (t : Trial P). Encodes L zs (withTrial s (s .routes) t)) (sym (ap (λ (t : Trial P). recordIn t x) is))
+          (subst (λ (y : List ℕ). Encodes L y (withTrial s (s .routes) (opened (x ∷ cs)))) (sym (k .inTrial (h .0) ∙ ap (λ (n : ℕ). writes (recordWrites L n (standingIn ws) action p old new) ws) (sym ci))) r)
 
-  pub add-slot : (ys : List ℕ) → Encodes ys (withTrial s (insert r (s .routes)) (s .trial)) → trialIn ys ≡ 1 → standingIn ys < 64
-  add-slot ys e = slot-free ys (withTrial s (insert r (s .routes)) (s .trial)) e (a .means .lawful .few) (add-quiet .1 .1 .1 .1 .0)
+  -- ---- add
 
-  pub add-does : (ys zs : List ℕ) → Encodes ys (withTrial s (insert r (s .routes)) (s .trial)) → Noted c 1 (r .prefix) (r .payload) (r .payload) ys zs
-      → (t : State Hop) × (next rules (add r) (some s) ≡ some t) × Means zs t
-  add-does ys zs e n =
-      does-of c (add r) ws zs s (changeTo s (insert r (s .routes)) (added r)) a refl
-      (noted-encodes c 1 (r .prefix) (r .payload) (r .payload) (added r) ys zs (withTrial s (insert r (s .routes)) (s .trial)) (says-added (r .prefix) (r .payload) (r .payload)) e
-      (a .capacityIs) (a .means .lawful .few) (add-quiet .1 .1 .1 .1 .0) n)
+  module _ (c : ℕ) (r : Route P) (ws : List ℕ) (s : State P) (a : Accepts L c (add r) ws s) where
+    add-quiet : Quiet (due (L .rules) (add r) (some s))
+    add-quiet = lines L c (add r) ws s a
 
--- ---- delete
+    pub add-to-put : ToPut L c ws r s
+    add-to-put =
+        let q = add-quiet in
+        record {
+          encodes = means-encodes L ws s (a .means);
+          capacityIs = a .capacityIs;
+          few = a .means .lawful .few;
+          formed = both (wellFormed (L .rules .width) (r .prefix)) (L .rules .mayHold (r .prefix)) (not-false _ (q .1 .0)) .0;
+          absent = absent (r .prefix) (s .routes) (q .1 .1 .1 .0);
+          room = omega (arith, a .means .lawful .noMore, eqb-false (length (s .routes)) (s .capacity) (q .1 .1 .1 .1 .1 .0));
+        }
 
-module _ (c : ℕ) (p : Prefix) (ws : List ℕ) (s : State Hop) (a : Accepts c (delete p) ws s) where
-  delete-quiet : Quiet (due rules (delete p) (some s))
-  delete-quiet = lines c (delete p) ws s a
+    pub add-slot : (ys : List ℕ) → Encodes L ys (withTrial s (insert r (s .routes)) (s .trial)) → trialIn ys ≡ 1 → standingIn ys < L .rules .standing
+    add-slot ys e = slot-free L ys (withTrial s (insert r (s .routes)) (s .trial)) e (a .means .lawful .few) (add-quiet .1 .1 .1 .1 .0)
 
-  gone : (r : Route Hop) × (find p (s .routes) ≡ some r)
-  gone = there p (s .routes) (not-false _ (delete-quiet .1 .1 .0))
+    pub add-does : (ys zs : List ℕ) → Encodes L ys (withTrial s (insert r (s .routes)) (s .trial)) → Noted L c 1 (r .prefix) (r .payload) (r .payload) ys zs
+        → (t : State P) × (next (L .rules) (add r) (some s) ≡ some t) × Means L zs t
+    add-does ys zs e n =
+        does-of L c (add r) ws zs s (changeTo s (insert r (s .routes)) (added r)) a refl
+        (noted-encodes c 1 (r .prefix) (r .payload) (r .payload) (added r) ys zs (withTrial s (insert r (s .routes)) (s .trial)) (says-added L laid (r .prefix) (r .payload) (r .payload)) e
+        (a .capacityIs) (a .means .lawful .few) (add-quiet .1 .1 .1 .1 .0) n)
 
-  pub delete-to-take : ToTake c ws p s
-  delete-to-take = record { encodes = means-encodes ws s (a .means); capacityIs = a .capacityIs; few = a .means .lawful .few; route = gone .0; there = gone .1 }
+  -- ---- delete
 
-  pub delete-slot : (ys : List ℕ) → Encodes ys (withTrial s (remove p (s .routes)) (s .trial)) → trialIn ys ≡ 1 → standingIn ys < 64
-  delete-slot ys e = slot-free ys (withTrial s (remove p (s .routes)) (s .trial)) e (a .means .lawful .few) (delete-quiet .1 .1 .1 .0)
+  module _ (c : ℕ) (p : Prefix) (ws : List ℕ) (s : State P) (a : Accepts L c (delete p) ws s) where
+    delete-quiet : Quiet (due (L .rules) (delete p) (some s))
+    delete-quiet = lines L c (delete p) ws s a
 
-  pub delete-does : (ys zs : List ℕ) (old : Hop) → ((r : Route Hop) → find p (s .routes) ≡ some r → old ≡ r .payload) → Encodes ys (withTrial s (remove p (s .routes)) (s .trial)) → Noted c 2 p old old ys zs
-      → (t : State Hop) × (next rules (delete p) (some s) ≡ some t) × Means zs t
-  delete-does ys zs old held e n =
-      let r = gone .0 in
-      let h : old ≡ r .payload = held r (gone .1) in
-      let w : r .prefix ≡ p = find-held p r (s .routes) (gone .1) .1 in
-      let x : deleted (record { prefix = p; payload = old }) ≡ deleted r = λ i. deleted (record { prefix = sym w i; payload = h i }) in
-      does-of c (delete p) ws zs s (changeTo s (remove p (s .routes)) (deleted r)) a (ap (λ (o : Option (Route Hop)). some (deleteFrom p s o)) (gone .1))
-      (noted-encodes c 2 p old old (deleted r) ys zs (withTrial s (remove p (s .routes)) (s .trial)) (subst (Says 2 p old old) x (says-deleted p old old)) e
-      (a .capacityIs) (a .means .lawful .few) (delete-quiet .1 .1 .1 .0) n)
+    gone : (r : Route P) × (find p (s .routes) ≡ some r)
+    gone = there p (s .routes) (not-false _ (delete-quiet .1 .1 .0))
 
--- ---- change
+    pub delete-to-take : ToTake L c ws p s
+    delete-to-take = record { encodes = means-encodes L ws s (a .means); capacityIs = a .capacityIs; few = a .means .lawful .few; route = gone .0; there = gone .1 }
 
-module _ (c : ℕ) (r : Route Hop) (ws : List ℕ) (s : State Hop) (a : Accepts c (change r) ws s) where
-  change-quiet : Quiet (due rules (change r) (some s))
-  change-quiet = lines c (change r) ws s a
+    pub delete-slot : (ys : List ℕ) → Encodes L ys (withTrial s (remove p (s .routes)) (s .trial)) → trialIn ys ≡ 1 → standingIn ys < L .rules .standing
+    delete-slot ys e = slot-free L ys (withTrial s (remove p (s .routes)) (s .trial)) e (a .means .lawful .few) (delete-quiet .1 .1 .1 .0)
 
-  was : (o : Route Hop) × (find (r .prefix) (s .routes) ≡ some o)
-  was = there (r .prefix) (s .routes) (not-false _ (change-quiet .1 .1 .1 .0))
+    pub delete-does : (ys zs : List ℕ) (old : P) → ((r : Route P) → find p (s .routes) ≡ some r → old ≡ r .payload) → Encodes L ys (withTrial s (remove p (s .routes)) (s .trial)) → Noted L c 2 p old old ys zs
+        → (t : State P) × (next (L .rules) (delete p) (some s) ≡ some t) × Means L zs t
+    delete-does ys zs old held e n =
+        let r = gone .0 in
+        let h : old ≡ r .payload = held r (gone .1) in
+        let w : r .prefix ≡ p = find-held p r (s .routes) (gone .1) .1 in
+        let x : deleted (record { prefix = p; payload = old }) ≡ deleted r = λ i. deleted (record { prefix = sym w i; payload = h i }) in
+        does-of L c (delete p) ws zs s (changeTo s (remove p (s .routes)) (deleted r)) a (ap (λ (o : Option (Route P)). some (deleteFrom p s o)) (gone .1))
+        (noted-encodes c 2 p old old (deleted r) ys zs (withTrial s (remove p (s .routes)) (s .trial)) (subst (Says L laid 2 p old old) x (says-deleted L laid p old old)) e
+        (a .capacityIs) (a .means .lawful .few) (delete-quiet .1 .1 .1 .0) n)
 
-  pub change-to-take : ToTake c ws (r .prefix) s
-  change-to-take = record { encodes = means-encodes ws s (a .means); capacityIs = a .capacityIs; few = a .means .lawful .few; route = was .0; there = was .1 }
+  -- ---- change
 
-  pub change-slot : (ys : List ℕ) → Encodes ys (withTrial s (replace r (s .routes)) (s .trial)) → trialIn ys ≡ 1 → standingIn ys < 64
-  change-slot ys e = slot-free ys (withTrial s (replace r (s .routes)) (s .trial)) e (a .means .lawful .few) (change-quiet .1 .1 .1 .1 .0)
+  module _ (c : ℕ) (r : Route P) (ws : List ℕ) (s : State P) (a : Accepts L c (change r) ws s) where
+    change-quiet : Quiet (due (L .rules) (change r) (some s))
+    change-quiet = lines L c (change r) ws s a
 
-  pub change-does : (ys zs : List ℕ) (old : Hop) → ((o : Route Hop) → find (r .prefix) (s .routes) ≡ some o → old ≡ o .payload) → Encodes ys (withTrial s (replace r (s .routes)) (s .trial))
-      → Noted c 3 (r .prefix) old (r .payload) ys zs → (t : State Hop) × (next rules (change r) (some s) ≡ some t) × Means zs t
-  change-does ys zs old held e n =
-      let h : old ≡ was .0 .payload = held (was .0) (was .1) in
-      let x : changed (r .prefix) old (r .payload) ≡ changed (r .prefix) (was .0 .payload) (r .payload) = ap (λ (o : Hop). changed (r .prefix) o (r .payload)) h in
-      let y = changed (r .prefix) (was .0 .payload) (r .payload) in
-      does-of c (change r) ws zs s (changeTo s (replace r (s .routes)) y) a (ap (λ (o : Option (Route Hop)). some (changeAt r s o)) (was .1))
-      (noted-encodes c 3 (r .prefix) old (r .payload) y ys zs (withTrial s (replace r (s .routes)) (s .trial)) (subst (Says 3 (r .prefix) old (r .payload)) x (says-changed (r .prefix) old (r .payload))) e
-      (a .capacityIs) (a .means .lawful .few) (change-quiet .1 .1 .1 .1 .0) n)
+    was : (o : Route P) × (find (r .prefix) (s .routes) ≡ some o)
+    was = there (r .prefix) (s .routes) (not-false _ (change-quiet .1 .1 .1 .0))
 
--- ---- the hop that a prefix has
+    pub change-to-take : ToTake L c ws (r .prefix) s
+    change-to-take = record { encodes = means-encodes L ws s (a .means); capacityIs = a .capacityIs; few = a .means .lawful .few; route = was .0; there = was .1 }
 
--- what the search found of a prefix that is there
-pub found-there : (c : ℕ) (ws : List ℕ) (p : Prefix) (x : Spot) → Finds c ws p x → (s : State Hop) → Means ws s → s .capacity ≡ c → (r : Route Hop) → find p (s .routes) ≡ some r
-    → (places : List ℕ) × Spotted ws places x (some r)
-found-there c ws p x f s m ci r is = (routesUsed (m .tree), subst (Spotted ws (routesUsed (m .tree)) x) is (means-spotted c ws p x f s m ci))
+    pub change-slot : (ys : List ℕ) → Encodes L ys (withTrial s (replace r (s .routes)) (s .trial)) → trialIn ys ≡ 1 → standingIn ys < L .rules .standing
+    change-slot ys e = slot-free L ys (withTrial s (replace r (s .routes)) (s .trial)) e (a .means .lawful .few) (change-quiet .1 .1 .1 .1 .0)
 
-pub hop-there : (c : ℕ) (ws : List ℕ) (p : Prefix) (i : Place) → Finds c ws p (spot.At i) → (s : State Hop) → Means ws s → s .capacity ≡ c → (r : Route Hop) → find p (s .routes) ≡ some r
-    → hopAt ws (seat (i .0)) ≡ r .payload
-hop-there c ws p i f s m ci r is = ap (λ (x : Route Hop). x .payload) (found-there c ws p (spot.At i) f s m ci r is .1 .1)
+    pub change-does : (ys zs : List ℕ) (old : P) → ((o : Route P) → find (r .prefix) (s .routes) ≡ some o → old ≡ o .payload) → Encodes L ys (withTrial s (replace r (s .routes)) (s .trial))
+        → Noted L c 3 (r .prefix) old (r .payload) ys zs → (t : State P) × (next (L .rules) (change r) (some s) ≡ some t) × Means L zs t
+    change-does ys zs old held e n =
+        let h : old ≡ was .0 .payload = held (was .0) (was .1) in
+        let x : changed (r .prefix) old (r .payload) ≡ changed (r .prefix) (was .0 .payload) (r .payload) = ap (λ (o : P). changed (r .prefix) o (r .payload)) h in
+        let y = changed (r .prefix) (was .0 .payload) (r .payload) in
+        does-of L c (change r) ws zs s (changeTo s (replace r (s .routes)) y) a (ap (λ (o : Option (Route P)). some (changeAt r s o)) (was .1))
+        (noted-encodes c 3 (r .prefix) old (r .payload) y ys zs (withTrial s (replace r (s .routes)) (s .trial)) (subst (Says L laid 3 (r .prefix) old (r .payload)) x (says-changed L laid (r .prefix) old (r .payload))) e
+        (a .capacityIs) (a .means .lawful .few) (change-quiet .1 .1 .1 .1 .0) n)
 
--- ---- a trial opened, and kept
+  -- ---- a trial opened, and kept
 
-pub open-does : (c : ℕ) (ws zs : List ℕ) (s : State Hop) → Accepts c openTrial ws s → zs ≡ writes (headWrites 1 0) ws → (t : State Hop) × (next rules openTrial (some s) ≡ some t) × Means zs t
-open-does c ws zs s a e =
-    let t = withTrial s (s .routes) (opened []) in
-    does-of c openTrial ws zs s t a refl (subst (λ (y : List ℕ). Encodes y t) (sym e) (open-encodes ws s (means-encodes ws s (a .means))))
+  pub open-does : (c : ℕ) (ws zs : List ℕ) (s : State P) → Accepts L c openTrial ws s → zs ≡ writes (headWrites 1 0) ws → (t : State P) × (next (L .rules) openTrial (some s) ≡ some t) × Means L zs t
+  open-does c ws zs s a e =
+      let t = withTrial s (s .routes) (opened []) in
+      does-of L c openTrial ws zs s t a refl (subst (λ (y : List ℕ). Encodes L y t) (sym e) (open-encodes L laid ws s (means-encodes L ws s (a .means))))
 
-pub keep-does : (c : ℕ) (ws zs : List ℕ) (s : State Hop) → Accepts c keep ws s → zs ≡ writes (headWrites 0 0) ws → (t : State Hop) × (next rules keep (some s) ≡ some t) × Means zs t
-keep-does c ws zs s a e =
-    let t = withTrial s (s .routes) closed in
-    does-of c keep ws zs s t a refl (subst (λ (y : List ℕ). Encodes y t) (sym e) (close-encodes ws s (means-encodes ws s (a .means))))
+  pub keep-does : (c : ℕ) (ws zs : List ℕ) (s : State P) → Accepts L c keep ws s → zs ≡ writes (headWrites 0 0) ws → (t : State P) × (next (L .rules) keep (some s) ≡ some t) × Means L zs t
+  keep-does c ws zs s a e =
+      let t = withTrial s (s .routes) closed in
+      does-of L c keep ws zs s t a refl (subst (λ (y : List ℕ). Encodes L y t) (sym e) (close-encodes L laid ws s (means-encodes L ws s (a .means))))

@@ -5,17 +5,18 @@ use mathlib.Core.List.{List}
 use mathlib.Core.Option.{some}
 use Rattle.model.specs.Prefix.{Prefix}
 use Rattle.model.specs.Routes.{Route, find}
-use Rattle.model.specs.Ipv4.{Hop}
 use Rattle.model.specs.State.{State}
-use Rattle.pool.specs.Layout.{trialIn, standingIn}
+use Rattle.pool.specs.Layout.{Layout, trialIn, standingIn}
 use Rattle.pool.specs.Means.{Means}
-use Rattle.rows.specs.Writes.{writes, recordWrites}
+use Rattle.pool.specs.Write.{writes}
+use Rattle.rows.specs.Writes.{recordWrites}
 
--- "In a trial each accepted add, delete and hop change is recorded": without one no word is written.
-pub record Noted (c action : ℕ) (p : Prefix) (old new : Hop) (ws zs : List ℕ) : Type 0 where
-  pub inTrial : trialIn ws ≡ 1 → zs ≡ writes (recordWrites c (standingIn ws) action p old new) ws
-  pub without : (trialIn ws ≡ 1 → ⊥) → zs ≡ ws
+module _ {P : Type 0} (L : Layout P) where
+  -- "In a trial each accepted add, delete and hop change is recorded": without one no word is written.
+  pub record Noted (c action : ℕ) (p : Prefix) (old new : P) (ws zs : List ℕ) : Type 0 where
+    pub inTrial : trialIn ws ≡ 1 → zs ≡ writes (recordWrites L c (standingIn ws) action p old new) ws
+    pub without : (trialIn ws ≡ 1 → ⊥) → zs ≡ ws
 
--- The hop of the route that has this prefix, where there is one.
-abbrev pub HeldHop : ℕ → List ℕ → Prefix → Hop → Type 0
-HeldHop c ws p h = (s : State Hop) → Means ws s → s .capacity ≡ c → (r : Route Hop) → find p (s .routes) ≡ some r → h ≡ r .payload
+  -- The hop of the route that has this prefix, where there is one.
+  abbrev pub HeldHop : ℕ → List ℕ → Prefix → P → Type 0
+  HeldHop c ws p h = (s : State P) → Means L ws s → s .capacity ≡ c → (r : Route P) → find p (s .routes) ≡ some r → h ≡ r .payload

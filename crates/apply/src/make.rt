@@ -3,6 +3,7 @@ ghost use Prim.Native.Nat.{_<_};
 ghost use Rattle.model.specs.Call as call;
 ghost use Rattle.pool.specs.Layout as layout;
 ghost use Rattle.route.specs.Means.{prefixOf, hopOf, routeOf};
+ghost use Rattle.pool.specs.Ipv4.{ipv4};
 ghost use Rattle.pool.specs.Fit.{Fit};
 ghost use Rattle.apply.specs.Does.{Accepted, Does};
 ghost use Rattle.apply.specs.Noted.{Noted, HeldHop};
@@ -13,8 +14,8 @@ use search::Spot;
 
 // The hop that a prefix has, before it is taken out or changed.
 fn held_hop(pool: &[u32], capacity: usize, prefix: Prefix) -> Hop
-    requires { ⌜ Fit capacity (now pool) ⌝ }
-    ensures { λ r. ⌜ HeldHop capacity (now (pool .entry)) (prefixOf prefix) (hopOf r) ⌝ }
+    requires { ⌜ Fit ipv4 capacity (now pool) ⌝ }
+    ensures { λ r. ⌜ HeldHop ipv4 capacity (now (pool .entry)) (prefixOf prefix) (hopOf r) ⌝ }
 {
     match search::find(pool, capacity, prefix) {
         Spot::At(place) => pool::hop_at(pool, pool::seat(place)),
@@ -25,9 +26,9 @@ fn held_hop(pool: &[u32], capacity: usize, prefix: Prefix) -> Hop
 
 // A change is recorded if a trial is open.
 fn note(pool: &mut [u32], capacity: usize, action: u32, prefix: Prefix, old: Hop, new: Hop)
-    requires { ⌜ Fit capacity (now pool) ⌝ }
+    requires { ⌜ Fit ipv4 capacity (now pool) ⌝ }
     requires { ⌜ (layout.trialIn (now pool) ≡ 1 → layout.standingIn (now pool) < 64) ⌝ }
-    ensures { λ _. ⌜ Noted capacity action (prefixOf prefix) (hopOf old) (hopOf new) (now (pool .entry)) (now (pool .exit)) ⌝ }
+    ensures { λ _. ⌜ Noted ipv4 capacity action (prefixOf prefix) (hopOf old) (hopOf new) (now (pool .entry)) (now (pool .exit)) ⌝ }
 {
     if pool[3] == 1 {
         trial::record_change(pool, capacity, action, prefix, old, new);
@@ -36,9 +37,9 @@ fn note(pool: &mut [u32], capacity: usize, action: u32, prefix: Prefix, old: Hop
 
 // One route more.
 pub fn add(pool: &mut [u32], capacity: usize, route: Route)
-    requires { ⌜ Fit capacity (now pool) ⌝ }
-    requires { ⌜ Accepted capacity (call.add (routeOf route)) (now pool) ⌝ }
-    ensures { λ _. ⌜ Does capacity (call.add (routeOf route)) (now (pool .entry)) (now (pool .exit)) ⌝ }
+    requires { ⌜ Fit ipv4 capacity (now pool) ⌝ }
+    requires { ⌜ Accepted ipv4 capacity (call.add (routeOf route)) (now pool) ⌝ }
+    ensures { λ _. ⌜ Does ipv4 capacity (call.add (routeOf route)) (now (pool .entry)) (now (pool .exit)) ⌝ }
 {
     let prefix = route.prefix;
     let hop = route.hop;
@@ -48,9 +49,9 @@ pub fn add(pool: &mut [u32], capacity: usize, route: Route)
 
 // One route less.
 pub fn delete(pool: &mut [u32], capacity: usize, prefix: Prefix)
-    requires { ⌜ Fit capacity (now pool) ⌝ }
-    requires { ⌜ Accepted capacity (call.delete (prefixOf prefix)) (now pool) ⌝ }
-    ensures { λ _. ⌜ Does capacity (call.delete (prefixOf prefix)) (now (pool .entry)) (now (pool .exit)) ⌝ }
+    requires { ⌜ Fit ipv4 capacity (now pool) ⌝ }
+    requires { ⌜ Accepted ipv4 capacity (call.delete (prefixOf prefix)) (now pool) ⌝ }
+    ensures { λ _. ⌜ Does ipv4 capacity (call.delete (prefixOf prefix)) (now (pool .entry)) (now (pool .exit)) ⌝ }
 {
     let old = held_hop(pool, capacity, prefix);
     edit::take_out(pool, capacity, prefix);
@@ -59,9 +60,9 @@ pub fn delete(pool: &mut [u32], capacity: usize, prefix: Prefix)
 
 // Another hop for one route.
 pub fn change(pool: &mut [u32], capacity: usize, route: Route)
-    requires { ⌜ Fit capacity (now pool) ⌝ }
-    requires { ⌜ Accepted capacity (call.change (routeOf route)) (now pool) ⌝ }
-    ensures { λ _. ⌜ Does capacity (call.change (routeOf route)) (now (pool .entry)) (now (pool .exit)) ⌝ }
+    requires { ⌜ Fit ipv4 capacity (now pool) ⌝ }
+    requires { ⌜ Accepted ipv4 capacity (call.change (routeOf route)) (now pool) ⌝ }
+    ensures { λ _. ⌜ Does ipv4 capacity (call.change (routeOf route)) (now (pool .entry)) (now (pool .exit)) ⌝ }
 {
     let prefix = route.prefix;
     let hop = route.hop;
@@ -72,18 +73,18 @@ pub fn change(pool: &mut [u32], capacity: usize, route: Route)
 
 // A trial opened: no change stands yet.
 pub fn open(pool: &mut [u32], capacity: usize)
-    requires { ⌜ Fit capacity (now pool) ⌝ }
-    requires { ⌜ Accepted capacity call.openTrial (now pool) ⌝ }
-    ensures { λ _. ⌜ Does capacity call.openTrial (now (pool .entry)) (now (pool .exit)) ⌝ }
+    requires { ⌜ Fit ipv4 capacity (now pool) ⌝ }
+    requires { ⌜ Accepted ipv4 capacity call.openTrial (now pool) ⌝ }
+    ensures { λ _. ⌜ Does ipv4 capacity call.openTrial (now (pool .entry)) (now (pool .exit)) ⌝ }
 {
     trial::write_head(pool, 1, 0);
 }
 
 // A trial kept: the routes stay, and nothing can be taken back any more.
 pub fn keep(pool: &mut [u32], capacity: usize)
-    requires { ⌜ Fit capacity (now pool) ⌝ }
-    requires { ⌜ Accepted capacity call.keep (now pool) ⌝ }
-    ensures { λ _. ⌜ Does capacity call.keep (now (pool .entry)) (now (pool .exit)) ⌝ }
+    requires { ⌜ Fit ipv4 capacity (now pool) ⌝ }
+    requires { ⌜ Accepted ipv4 capacity call.keep (now pool) ⌝ }
+    ensures { λ _. ⌜ Does ipv4 capacity call.keep (now (pool .entry)) (now (pool .exit)) ⌝ }
 {
     trial::write_head(pool, 0, 0);
 }

@@ -13,6 +13,7 @@ ghost use mathlib.Core.Bool.{true};
 ghost use mathlib.Core.Logic.{_↔_};
 ghost use Rattle.model.specs.Ipv4.{Hop};
 ghost use Rattle.model.specs.State.{State};
+ghost use Rattle.pool.specs.Ipv4.{ipv4};
 ghost use Rattle.pool.specs.Means.{Means};
 ghost use Rattle.pool.specs.Fit.{Fit};
 use marks::Sort;
@@ -20,8 +21,8 @@ use shape::RootAudit;
 
 // Whether the words are a sound pool of this capacity.
 pub fn audit(pool: &[u32], capacity: usize) -> bool
-    requires { ⌜ Fit capacity (now pool) ⌝ }
-    ensures { λ r. ⌜ (r ≡ true) ↔ ((s : State Hop) × Means (now (pool .entry)) s × (s .capacity ≡ capacity)) ⌝ }
+    requires { ⌜ Fit ipv4 capacity (now pool) ⌝ }
+    ensures { λ r. ⌜ (r ≡ true) ↔ ((s : State Hop) × Means ipv4 (now (pool .entry)) s × (s .capacity ≡ capacity)) ⌝ }
 {
     if !head::head_is_good(pool, capacity) {
         return false;

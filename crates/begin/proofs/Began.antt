@@ -9,14 +9,15 @@ use borrow.Author.Tests.{eq-eqb, ne-eqb, lt-ltb, le-ltb}
 use lib.Dec.{eqb, ltb}
 use lib.ListN.{length, getD, set, drop, take, replicate, length-set, length-replicate, getD-replicate, List·getD-append}
 use lib.Seq.{length-take-le, length-front, getD-set-same, getD-set-other, getD-append-add, getD-drop}
-use Rattle.model.specs.Ipv4.{Hop}
 use Rattle.model.specs.State.{Meaning, empty}
 use Rattle.model.specs.Call.{fresh, number}
 use Rattle.model.specs.Lawful.{Lawful}
 use Rattle.model.proofs.Lawful.{empty-lawful}
-use Rattle.pool.specs.Layout.{word, rules, size, seat, joint}
+use Rattle.pool.specs.Layout.{word, Layout, size}
 use Rattle.pool.specs.Means.{Means}
+use Rattle.pool.proofs.Laid.{Laid, payload-fits, head-in, seat-in, joint-in}
 use Rattle.promise.specs.Promise.{FreshPromise}
+use Rattle.promise.specs.Trees.{tree}
 
 -- ---- the words after a fresh table is made: the own words cleared, the capacity in front
 
@@ -51,71 +52,75 @@ module _ (ws : List ℕ) (n c : ℕ) (fits : n ≤ length ws) where
       ∙ getD-drop n ws (i - n) 0
       ∙ ap (λ (k : ℕ). getD ws k 0) f
 
--- ---- they mean the empty table
+module _ {P : Type 0} (L : Layout P) where
+  -- ---- the promise of a refusal
 
-module _ (ws : List ℕ) (c : ℕ) (fits : size c ≤ length ws) where
-  zeroed-word : (i : ℕ) → 1 ≤ i → i < size c → word (begun ws (size c) c) i ≡ 0
-  zeroed-word i a b = begun-zero ws (size c) c fits i a b
+  -- a refusal
+  refused-fresh : (ws : List ℕ) (c k : ℕ) → ((m : Meaning P) → k ≡ number (L .rules) (fresh c (length ws)) m) → (k ≡ 0 → ⊥) → FreshPromise (tree L) c ws ws k
+  refused-fresh ws c k e z = record { numberIs = e; emptyThen = λ f. absurd (z f); refusalKeeps = λ q. refl; long = refl; pastKeeps = λ i q. refl }
 
-  pub begun-means : Lawful rules (empty c) → Means (begun ws (size c) c) (empty c)
-  begun-means l = record {
-    tree = none;
-    longEnough = omega (arith, begun-long ws (size c) c fits);
-    lawful = l;
-    capacityThere = begun-first ws (size c) c fits (omega arith);
-    countThere = zeroed-word 1 (omega arith) (omega arith);
-    trialThere = (zeroed-word 3 (omega arith) (omega arith), zeroed-word 4 (omega arith) (omega arith));
-    holds = zeroed-word 2 (omega arith) (omega arith);
-    obeys = tt;
-    routesThere = refl;
-    routePlacesUsed = λ i h k. omega (arith, zeroed-word (seat i) (omega arith) (omega arith));
-    innerPlacesUsed = λ j h k. omega (arith, zeroed-word (joint c j) (omega arith) (omega arith));
-  }
+  pub no-capacity : (ws : List ℕ) (c : ℕ) → c ≡ 0 → FreshPromise (tree L) c ws ws 1
+  no-capacity ws c h = refused-fresh ws c 1 (λ m. rw (eq-eqb c 0 h)) (λ z. omega arith)
 
--- ---- the promise
+  pub past-limit : (ws : List ℕ) (c : ℕ) → L .rules .limit < c → FreshPromise (tree L) c ws ws 1
+  past-limit ws c h =
+      let a : eqb c 0 ≡ false = ne-eqb c 0 (λ z. omega arith) in
+      let b : ltb (L .rules .limit) c ≡ true = lt-ltb (L .rules .limit) c h in
+      refused-fresh ws c 1 (λ m. rw (a, b)) (λ z. omega arith)
 
--- a refusal
-refused-fresh : (ws : List ℕ) (c k : ℕ) → ((m : Meaning Hop) → k ≡ number rules (fresh c (length ws)) m) → (k ≡ 0 → ⊥) → FreshPromise c ws ws k
-refused-fresh ws c k e z = record { numberIs = e; emptyThen = λ f. absurd (z f); refusalKeeps = λ q. refl; long = refl; pastKeeps = λ i q. refl }
+  pub short-buffer : (ws : List ℕ) (c : ℕ) → (c ≡ 0 → ⊥) → c ≤ L .rules .limit → length ws < size L c → FreshPromise (tree L) c ws ws 2
+  short-buffer ws c h k s =
+      let a : eqb c 0 ≡ false = ne-eqb c 0 h in
+      let b : ltb (L .rules .limit) c ≡ false = le-ltb (L .rules .limit) c k in
+      let d : ltb (length ws) (size L c) ≡ true = lt-ltb (length ws) (size L c) s in
+      refused-fresh ws c 2 (λ m. rw (a, b, d)) (λ z. omega arith)
 
-pub no-capacity : (ws : List ℕ) (c : ℕ) → c ≡ 0 → FreshPromise c ws ws 1
-no-capacity ws c h = refused-fresh ws c 1 (λ m. rw (eq-eqb c 0 h)) (λ z. omega arith)
+module _ {P : Type 0} (L : Layout P) (laid : Laid L) where
+  -- ---- they mean the empty table
 
-pub past-limit : (ws : List ℕ) (c : ℕ) → rules .limit < c → FreshPromise c ws ws 1
-past-limit ws c h =
-    let a : eqb c 0 ≡ false = ne-eqb c 0 (λ z. omega arith) in
-    let b : ltb (rules .limit) c ≡ true = lt-ltb (rules .limit) c h in
-    refused-fresh ws c 1 (λ m. rw (a, b)) (λ z. omega arith)
+  module _ (ws : List ℕ) (c : ℕ) (fits : size L c ≤ length ws) where
+    zeroed-word : (i : ℕ) → 1 ≤ i → i < size L c → word (begun ws (size L c) c) i ≡ 0
+    zeroed-word i a b = begun-zero ws (size L c) c fits i a b
 
-pub short-buffer : (ws : List ℕ) (c : ℕ) → (c ≡ 0 → ⊥) → c ≤ rules .limit → length ws < size c → FreshPromise c ws ws 2
-short-buffer ws c h k s =
-    let a : eqb c 0 ≡ false = ne-eqb c 0 h in
-    let b : ltb (rules .limit) c ≡ false = le-ltb (rules .limit) c k in
-    let d : ltb (length ws) (size c) ≡ true = lt-ltb (length ws) (size c) s in
-    refused-fresh ws c 2 (λ m. rw (a, b, d)) (λ z. omega arith)
+    pub begun-means : Lawful (L .rules) (empty c) → Means L (begun ws (size L c) c) (empty c)
+    begun-means l = record {
+      tree = none;
+      longEnough = omega (arith, begun-long ws (size L c) c fits);
+      lawful = l;
+      capacityThere = begun-first ws (size L c) c fits (omega (arith, head-in laid c));
+      countThere = zeroed-word 1 (omega arith) (omega (arith, head-in laid c));
+      trialThere = (zeroed-word 3 (omega arith) (omega (arith, head-in laid c)), zeroed-word 4 (omega arith) (omega (arith, head-in laid c)));
+      holds = zeroed-word 2 (omega arith) (omega (arith, head-in laid c));
+      obeys = tt;
+      routesThere = refl;
+      routePlacesUsed = λ i h k. omega (arith, zeroed-word (L .seat i) (omega (arith, laid .seatPast i)) (omega (arith, seat-in laid c i h, payload-fits laid)));
+      innerPlacesUsed = λ j h k. omega (arith, zeroed-word (L .joint c j) (omega (arith, laid .jointFirst c j)) (omega (arith, joint-in laid c j h)));
+    }
 
-pub begins : (ws : List ℕ) (c k : ℕ) → (c ≡ 0 → ⊥) → c ≤ rules .limit → k ≡ size c → k ≤ length ws → FreshPromise c ws (begun ws k c) 0
-begins ws c k h r f g = rw f (record {
-  numberIs = λ m. sym (zeroed m);
-  emptyThen = λ q. begun-means ws c fits (empty-lawful rules c (length ws) none (rw (zeroed none)));
-  refusalKeeps = λ q. absurd (q refl);
-  long = begun-long ws (size c) c fits;
-  pastKeeps = λ i q. begun-past ws (size c) c fits i (omega arith) q;
-})
-  where
-    fits : size c ≤ length ws
-    fits = omega arith
+  -- ---- the promise of a fresh table
 
-    zeroed : (m : Meaning Hop) → number rules (fresh c (length ws)) m ≡ 0
-    zeroed m =
-        let a : eqb c 0 ≡ false = ne-eqb c 0 h in
-        let b : ltb (rules .limit) c ≡ false = le-ltb (rules .limit) c r in
-        let d : ltb (length ws) (size c) ≡ false = le-ltb (length ws) (size c) (omega arith) in
-        rw (a, b, d)
+  pub begins : (ws : List ℕ) (c k : ℕ) → (c ≡ 0 → ⊥) → c ≤ L .rules .limit → k ≡ size L c → k ≤ length ws → FreshPromise (tree L) c ws (begun ws k c) 0
+  begins ws c k h r f g = rw f (record {
+    numberIs = λ m. sym (zeroed m);
+    emptyThen = λ q. begun-means ws c fits (empty-lawful (L .rules) c (length ws) none (rw (zeroed none)));
+    refusalKeeps = λ q. absurd (q refl);
+    long = begun-long ws (size L c) c fits;
+    pastKeeps = λ i q. begun-past ws (size L c) c fits i (omega (arith, head-in laid c)) q;
+  })
+    where
+      fits : size L c ≤ length ws
+      fits = omega arith
 
--- what `clear` left of the own words, with the others behind them
-pub begins-cleared : (ws zs : List ℕ) (c k : ℕ) → (c ≡ 0 → ⊥) → c ≤ rules .limit → k ≡ size c → k ≤ length ws → zs ≡ replicate (length (take k ws)) 0
-    → FreshPromise c ws (set (zs ++ drop k ws) 0 c) 0
-begins-cleared ws zs c k h r f g e =
-    subst (λ (l : List ℕ). FreshPromise c ws (set (l ++ drop k ws) 0 c) 0) (sym (e ∙ ap (λ (n : ℕ). replicate n 0) (length-take-le k ws g)))
-    (begins ws c k h r f g)
+      zeroed : (m : Meaning P) → number (L .rules) (fresh c (length ws)) m ≡ 0
+      zeroed m =
+          let a : eqb c 0 ≡ false = ne-eqb c 0 h in
+          let b : ltb (L .rules .limit) c ≡ false = le-ltb (L .rules .limit) c r in
+          let d : ltb (length ws) (size L c) ≡ false = le-ltb (length ws) (size L c) (omega arith) in
+          rw (a, b, d)
+
+  -- what `clear` left of the own words, with the others behind them
+  pub begins-cleared : (ws zs : List ℕ) (c k : ℕ) → (c ≡ 0 → ⊥) → c ≤ L .rules .limit → k ≡ size L c → k ≤ length ws → zs ≡ replicate (length (take k ws)) 0
+      → FreshPromise (tree L) c ws (set (zs ++ drop k ws) 0 c) 0
+  begins-cleared ws zs c k h r f g e =
+      subst (λ (l : List ℕ). FreshPromise (tree L) c ws (set (l ++ drop k ws) 0 c) 0) (sym (e ∙ ap (λ (n : ℕ). replicate n 0) (length-take-le k ws g)))
+      (begins ws c k h r f g)

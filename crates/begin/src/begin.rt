@@ -1,7 +1,9 @@
 ghost use mathlib.Core.Path.{_≡_};
 ghost use lib.ListN.{length, replicate};
 ghost use Rattle.route.specs.Answers.{doneNumber};
+ghost use Rattle.pool.specs.Ipv4.{ipv4};
 ghost use Rattle.promise.specs.Promise.{FreshPromise};
+ghost use Rattle.promise.specs.Trees.{tree};
 use route::Done;
 use route::Refusal;
 
@@ -18,7 +20,7 @@ fn clear(pool: &mut [u32])
 
 // An empty table in a lent buffer. It does not ask what the buffer held: it is the one call that makes a pool sound.
 pub fn fresh(pool: &mut [u32], capacity: u32) -> Done
-    ensures { λ r. ⌜ FreshPromise capacity (now (pool .entry)) (now (pool .exit)) (doneNumber r) ⌝ }
+    ensures { λ r. ⌜ FreshPromise (tree ipv4) capacity (now (pool .entry)) (now (pool .exit)) (doneNumber r) ⌝ }
 {
     if capacity == 0 {
         return Done::Refused(Refusal::BadCapacity);

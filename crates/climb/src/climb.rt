@@ -1,4 +1,6 @@
 ghost use Prim.Native.Nat.{_≤_};
+ghost use Rattle.route.specs.Answers.{foundNumber, foundValue};
+ghost use Rattle.pool.specs.Ipv4.{ipv4};
 ghost use Rattle.pool.specs.Fit.{Fit};
 ghost use Rattle.search.specs.Down.{AllUsable, Ways, EndsAt};
 ghost use Rattle.climb.specs.Climb.{Rises, Leftmost, Climbs, Looks};
@@ -21,8 +23,8 @@ pub enum Edge {
 
 // Down to the leftmost leaf of what stands at a link.
 pub fn leftmost(pool: &[u32], capacity: usize, start: u32) -> Edge
-    requires { ⌜ Fit capacity (now pool) ⌝ }
-    ensures { λ r. ⌜ Leftmost capacity (now (pool .entry)) start r ⌝ }
+    requires { ⌜ Fit ipv4 capacity (now pool) ⌝ }
+    ensures { λ r. ⌜ Leftmost ipv4 capacity (now (pool .entry)) start r ⌝ }
 {
     let mut link = start;
     let mut lowest: u32 = 0;
@@ -57,9 +59,9 @@ pub fn ascend(
     destination: u32,
     side: u32,
 ) -> Rise
-    requires { ⌜ Fit capacity (now pool) ⌝ }
-    requires { ⌜ (depth ≤ 32) × AllUsable capacity (now pool) (now inner) depth ⌝ }
-    ensures { λ r. ⌜ Rises capacity (now (pool .entry)) destination side (now (inner .entry)) depth r ⌝ }
+    requires { ⌜ Fit ipv4 capacity (now pool) ⌝ }
+    requires { ⌜ (depth ≤ 32) × AllUsable ipv4 capacity (now pool) (now inner) depth ⌝ }
+    ensures { λ r. ⌜ Rises ipv4 capacity (now (pool .entry)) destination side (now (inner .entry)) depth r ⌝ }
 {
     let mut level = depth;
     while 0 < level {
@@ -75,9 +77,9 @@ pub fn ascend(
 
 // From a leaf up: the first route of it that matches, or of the leftmost leaf of a left side that the way passed by.
 fn climb(pool: &[u32], capacity: usize, way: Way, leaf: Place, destination: u32) -> Found
-    requires { ⌜ Fit capacity (now pool) ⌝ }
-    requires { ⌜ Ways capacity (now pool) destination way × EndsAt way leaf ⌝ }
-    ensures { λ r. ⌜ Climbs capacity (now (pool .entry)) destination r ⌝ }
+    requires { ⌜ Fit ipv4 capacity (now pool) ⌝ }
+    requires { ⌜ Ways ipv4 capacity (now pool) destination (way .inner) (way .depth) (way .end) × EndsAt (way .end) leaf ⌝ }
+    ensures { λ r. ⌜ Climbs ipv4 capacity (now (pool .entry)) destination (foundNumber r) (foundValue r) ⌝ }
 {
     let inner = way.inner;
     let mut level = way.depth;
@@ -116,8 +118,8 @@ fn climb(pool: &[u32], capacity: usize, way: Way, leaf: Place, destination: u32)
 
 // The longest match.
 pub fn lookup(pool: &[u32], capacity: usize, destination: u32) -> Found
-    requires { ⌜ Fit capacity (now pool) ⌝ }
-    ensures { λ r. ⌜ Looks capacity (now (pool .entry)) destination r ⌝ }
+    requires { ⌜ Fit ipv4 capacity (now pool) ⌝ }
+    ensures { λ r. ⌜ Looks ipv4 capacity (now (pool .entry)) destination (foundNumber r) (foundValue r) ⌝ }
 {
     let way = down(pool, capacity, destination);
     let end = way.end;

@@ -17,7 +17,7 @@ use Rattle.route.specs.declared.hop.Hop.{Hop}
 use Rattle.route.specs.declared.hop.Route.{Route}
 use Rattle.route.specs.declared.answer.Refusal.{Refusal}
 use Rattle.route.specs.declared.answer.Refusal.the-variants as why
-use Rattle.pool.specs.Layout.{rules}
+use Rattle.pool.specs.Ipv4.{ipv4}
 use Rattle.codes.specs.Codes.{prefixIn, hopIn, routeIn, hopWords, routeWords}
 use Rattle.codes.specs.Out.{Out, Exactly, valueWords}
 
@@ -29,10 +29,10 @@ unfolding goodHop
 no-hop k p g = refl
 
 module _ (a n k p g : ℕ) (s : State ModelHop) (good : wellFormed 32 (prefixIn a n) ≡ true) where
-  pub add-gives-4 : mayHold (prefixIn a n) ≡ true → number rules (add (routeIn a n (suc (suc (suc k))) p g)) (some s) ≡ 4
+  pub add-gives-4 : mayHold (prefixIn a n) ≡ true → number (ipv4 .rules) (add (routeIn a n (suc (suc (suc k))) p g)) (some s) ≡ 4
   add-gives-4 may = rw (good, may, no-hop k p g)
 
-  pub change-gives-4 : number rules (change (routeIn a n (suc (suc (suc k))) p g)) (some s) ≡ 4
+  pub change-gives-4 : number (ipv4 .rules) (change (routeIn a n (suc (suc (suc k))) p g)) (some s) ≡ 4
   change-gives-4 = rw (good, no-hop k p g)
 
 -- what each kind means

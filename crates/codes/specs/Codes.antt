@@ -6,11 +6,12 @@ use lib.Dec.{eqb, ltb}
 use Rattle.model.specs.Prefix.{Prefix}
 use Rattle.model.specs.Routes.{Route}
 use Rattle.model.specs.Ipv4.{Hop, direct, via, reject}
-use Rattle.pool.specs.Layout.{rules, size}
+use Rattle.pool.specs.Layout.{size}
+use Rattle.pool.specs.Ipv4.{ipv4}
 
 -- How many words a capacity needs, 0 for one that "fresh" refuses with 1.
 abbrev pub wordsFor : ℕ → ℕ
-wordsFor c = cond (eqb c 0 || ltb (rules .limit) c) 0 (size c)
+wordsFor c = cond (eqb c 0 || ltb (ipv4 .rules .limit) c) 0 (size ipv4 c)
 
 -- The prefix that an address and a length mean, whether or not it is well formed.
 abbrev pub prefixIn : ℕ → ℕ → Prefix

@@ -1,5 +1,5 @@
 -- The places of a part and those of the way to it are not the same, since no place stands twice in a tree.
-use Prim.Native.Nat.{ℕ, _+_}
+use Prim.Native.Nat.{ℕ}
 use mathlib.Core.Path.{refl, subst}
 use mathlib.Core.List.{List, [], _∷_, _++_}
 use mathlib.Core.Logic.{_⊎_, inl, inr, ⊎-elim}
@@ -55,35 +55,36 @@ shift-head j xs zs ys a b f g = record {
   apart = λ i h k. ⊎-elim (λ e. g (subst (λ (n : ℕ). Among n zs) e h)) (λ u. b .apart i h u) k;
 }
 
-pub routes-apart : (w : List (Step ℕ Seat)) (t : Seated) → Distinct (routePlaces (plug w t)) → Asunder (routePlaces t) (wayRoutes w)
-routes-apart [] t d = record { first = d; second = tt; apart = λ i h k. k }
-routes-apart (wentLeft j b r ∷ w) t d = shift-right (routePlaces t) (routePlaces r) (wayRoutes w) (routes-apart w (node j b t r) d)
-routes-apart (wentRight j b l ∷ w) t d = shift-left (routePlaces l) (routePlaces t) (wayRoutes w) (routes-apart w (node j b l t) d)
+module _ {P : Type 0} where
+  pub routes-apart : (w : List (Step ℕ (Seat P))) (t : Seated P) → Distinct (routePlaces (plug w t)) → Asunder (routePlaces t) (wayRoutes w)
+  routes-apart [] t d = record { first = d; second = tt; apart = λ i h k. k }
+  routes-apart (wentLeft j b r ∷ w) t d = shift-right (routePlaces t) (routePlaces r) (wayRoutes w) (routes-apart w (node j b t r) d)
+  routes-apart (wentRight j b l ∷ w) t d = shift-left (routePlaces l) (routePlaces t) (wayRoutes w) (routes-apart w (node j b l t) d)
 
--- a place, two lists, and the rest of the way
-pub inners-apart : (w : List (Step ℕ Seat)) (t : Seated) → Distinct (innerPlaces (plug w t)) → Asunder (innerPlaces t) (wayInners w)
-inners-apart [] t d = record { first = d; second = tt; apart = λ i h k. k }
-inners-apart (wentLeft j b r ∷ w) t d = go (inners-apart w (node j b t r) d)
-  where
-    go : Asunder (j ∷ (innerPlaces t ++ innerPlaces r)) (wayInners w) → Asunder (innerPlaces t) (j ∷ (innerPlaces r ++ wayInners w))
-    go a =
-        let tail : Asunder (innerPlaces t ++ innerPlaces r) (wayInners w) = record { first = a .first .1; second = a .second; apart = λ i h k. a .apart i (inr h) k } in
-        let head : Asunder (j ∷ innerPlaces r) (wayInners w) = record {
-          first = (λ h. a .first .0 (among-append j (innerPlaces t) (innerPlaces r) (inr h)), asunder (innerPlaces t) (innerPlaces r) (a .first .1) .second);
-          second = a .second;
-          apart = λ i h k. ⊎-elim (λ e. a .apart i (inl e) k) (λ u. a .apart i (inr (among-append i (innerPlaces t) (innerPlaces r) (inr u))) k) h;
-        } in
-        shift-head j (innerPlaces r) (innerPlaces t) (wayInners w) head (shift-right (innerPlaces t) (innerPlaces r) (wayInners w) tail)
-        (λ i h k. asunder (innerPlaces t) (innerPlaces r) (a .first .1) .apart i h k) (λ h. a .first .0 (among-append j (innerPlaces t) (innerPlaces r) (inl h)))
-inners-apart (wentRight j b l ∷ w) t d = go (inners-apart w (node j b l t) d)
-  where
-    go : Asunder (j ∷ (innerPlaces l ++ innerPlaces t)) (wayInners w) → Asunder (innerPlaces t) (j ∷ (innerPlaces l ++ wayInners w))
-    go a =
-        let tail : Asunder (innerPlaces l ++ innerPlaces t) (wayInners w) = record { first = a .first .1; second = a .second; apart = λ i h k. a .apart i (inr h) k } in
-        let head : Asunder (j ∷ innerPlaces l) (wayInners w) = record {
-          first = (λ h. a .first .0 (among-append j (innerPlaces l) (innerPlaces t) (inl h)), asunder (innerPlaces l) (innerPlaces t) (a .first .1) .first);
-          second = a .second;
-          apart = λ i h k. ⊎-elim (λ e. a .apart i (inl e) k) (λ u. a .apart i (inr (among-append i (innerPlaces l) (innerPlaces t) (inl u))) k) h;
-        } in
-        shift-head j (innerPlaces l) (innerPlaces t) (wayInners w) head (shift-left (innerPlaces l) (innerPlaces t) (wayInners w) tail)
-        (λ i h k. asunder (innerPlaces l) (innerPlaces t) (a .first .1) .apart i k h) (λ h. a .first .0 (among-append j (innerPlaces l) (innerPlaces t) (inr h)))
+  -- a place, two lists, and the rest of the way
+  pub inners-apart : (w : List (Step ℕ (Seat P))) (t : Seated P) → Distinct (innerPlaces (plug w t)) → Asunder (innerPlaces t) (wayInners w)
+  inners-apart [] t d = record { first = d; second = tt; apart = λ i h k. k }
+  inners-apart (wentLeft j b r ∷ w) t d = go (inners-apart w (node j b t r) d)
+    where
+      go : Asunder (j ∷ (innerPlaces t ++ innerPlaces r)) (wayInners w) → Asunder (innerPlaces t) (j ∷ (innerPlaces r ++ wayInners w))
+      go a =
+          let tail : Asunder (innerPlaces t ++ innerPlaces r) (wayInners w) = record { first = a .first .1; second = a .second; apart = λ i h k. a .apart i (inr h) k } in
+          let head : Asunder (j ∷ innerPlaces r) (wayInners w) = record {
+            first = (λ h. a .first .0 (among-append j (innerPlaces t) (innerPlaces r) (inr h)), asunder (innerPlaces t) (innerPlaces r) (a .first .1) .second);
+            second = a .second;
+            apart = λ i h k. ⊎-elim (λ e. a .apart i (inl e) k) (λ u. a .apart i (inr (among-append i (innerPlaces t) (innerPlaces r) (inr u))) k) h;
+          } in
+          shift-head j (innerPlaces r) (innerPlaces t) (wayInners w) head (shift-right (innerPlaces t) (innerPlaces r) (wayInners w) tail)
+          (λ i h k. asunder (innerPlaces t) (innerPlaces r) (a .first .1) .apart i h k) (λ h. a .first .0 (among-append j (innerPlaces t) (innerPlaces r) (inl h)))
+  inners-apart (wentRight j b l ∷ w) t d = go (inners-apart w (node j b l t) d)
+    where
+      go : Asunder (j ∷ (innerPlaces l ++ innerPlaces t)) (wayInners w) → Asunder (innerPlaces t) (j ∷ (innerPlaces l ++ wayInners w))
+      go a =
+          let tail : Asunder (innerPlaces l ++ innerPlaces t) (wayInners w) = record { first = a .first .1; second = a .second; apart = λ i h k. a .apart i (inr h) k } in
+          let head : Asunder (j ∷ innerPlaces l) (wayInners w) = record {
+            first = (λ h. a .first .0 (among-append j (innerPlaces l) (innerPlaces t) (inl h)), asunder (innerPlaces l) (innerPlaces t) (a .first .1) .first);
+            second = a .second;
+            apart = λ i h k. ⊎-elim (λ e. a .apart i (inl e) k) (λ u. a .apart i (inr (among-append i (innerPlaces l) (innerPlaces t) (inl u))) k) h;
+          } in
+          shift-head j (innerPlaces l) (innerPlaces t) (wayInners w) head (shift-left (innerPlaces l) (innerPlaces t) (wayInners w) tail)
+          (λ i h k. asunder (innerPlaces l) (innerPlaces t) (a .first .1) .apart i k h) (λ h. a .first .0 (among-append j (innerPlaces l) (innerPlaces t) (inr h)))

@@ -3,6 +3,7 @@ ghost use Rattle.model.specs.Ipv4.{Hop};
 ghost use Rattle.model.specs.State.{State};
 ghost use Rattle.model.specs.Call.{withTrial};
 ghost use Rattle.route.specs.Means.{prefixOf, routeOf};
+ghost use Rattle.pool.specs.Ipv4.{ipv4};
 ghost use Rattle.pool.specs.Fit.{Fit};
 ghost use Rattle.edit.specs.Encodes.{Encodes, ToPut, ToTake};
 use enter::put_first;
@@ -25,9 +26,9 @@ use route::Route;
 
 // A route more, where its prefix is not there and there is room.
 pub fn put_in(pool: &mut [u32], capacity: usize, route: Route)
-    requires { ⌜ Fit capacity (now pool) ⌝ }
-    requires { ⌜ ((s : State Hop) × ToPut capacity (now pool) (routeOf route) s) ⌝ }
-    ensures { λ _. ⌜ ((s : State Hop) → ToPut capacity (now (pool .entry)) (routeOf route) s → Encodes (now (pool .exit)) (withTrial s (insert (routeOf route) (s .routes)) (s .trial))) ⌝ }
+    requires { ⌜ Fit ipv4 capacity (now pool) ⌝ }
+    requires { ⌜ ((s : State Hop) × ToPut ipv4 capacity (now pool) (routeOf route) s) ⌝ }
+    ensures { λ _. ⌜ ((s : State Hop) → ToPut ipv4 capacity (now (pool .entry)) (routeOf route) s → Encodes ipv4 (now (pool .exit)) (withTrial s (insert (routeOf route) (s .routes)) (s .trial))) ⌝ }
 {
     let place = free(pool, capacity, Sort::Route);
     let prefix = route.prefix;
@@ -47,9 +48,9 @@ pub fn put_in(pool: &mut [u32], capacity: usize, route: Route)
 
 // A route less.
 pub fn take_out(pool: &mut [u32], capacity: usize, prefix: Prefix)
-    requires { ⌜ Fit capacity (now pool) ⌝ }
-    requires { ⌜ ((s : State Hop) × ToTake capacity (now pool) (prefixOf prefix) s) ⌝ }
-    ensures { λ _. ⌜ ((s : State Hop) → ToTake capacity (now (pool .entry)) (prefixOf prefix) s → Encodes (now (pool .exit)) (withTrial s (remove (prefixOf prefix) (s .routes)) (s .trial))) ⌝ }
+    requires { ⌜ Fit ipv4 capacity (now pool) ⌝ }
+    requires { ⌜ ((s : State Hop) × ToTake ipv4 capacity (now pool) (prefixOf prefix) s) ⌝ }
+    ensures { λ _. ⌜ ((s : State Hop) → ToTake ipv4 capacity (now (pool .entry)) (prefixOf prefix) s → Encodes ipv4 (now (pool .exit)) (withTrial s (remove (prefixOf prefix) (s .routes)) (s .trial))) ⌝ }
 {
     match plan_take(pool, capacity, prefix) {
         TakePlan::Link(cell, place) => {
@@ -67,9 +68,9 @@ pub fn take_out(pool: &mut [u32], capacity: usize, prefix: Prefix)
 
 // Another hop for a route.
 pub fn swap(pool: &mut [u32], capacity: usize, route: Route)
-    requires { ⌜ Fit capacity (now pool) ⌝ }
-    requires { ⌜ ((s : State Hop) × ToTake capacity (now pool) (prefixOf (route .prefix)) s) ⌝ }
-    ensures { λ _. ⌜ ((s : State Hop) → ToTake capacity (now (pool .entry)) (prefixOf (route .prefix)) s → Encodes (now (pool .exit)) (withTrial s (replace (routeOf route) (s .routes)) (s .trial))) ⌝ }
+    requires { ⌜ Fit ipv4 capacity (now pool) ⌝ }
+    requires { ⌜ ((s : State Hop) × ToTake ipv4 capacity (now pool) (prefixOf (route .prefix)) s) ⌝ }
+    ensures { λ _. ⌜ ((s : State Hop) → ToTake ipv4 capacity (now (pool .entry)) (prefixOf (route .prefix)) s → Encodes ipv4 (now (pool .exit)) (withTrial s (replace (routeOf route) (s .routes)) (s .trial))) ⌝ }
 {
     let prefix = route.prefix;
     let hop = route.hop;

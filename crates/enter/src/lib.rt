@@ -6,14 +6,16 @@ ghost use Rattle.route.specs.Means.{routeOf};
 ghost use Rattle.pool.specs.Layout as layout;
 ghost use Rattle.bits.specs.Address.{bit};
 ghost use Rattle.patricia.specs.Way.{toward};
-ghost use Rattle.rows.specs.Writes.{writes, routeWrites, innerWrites, firstWrites, hangWrites, joinWrites};
+ghost use Rattle.pool.specs.Write.{writes};
+ghost use Rattle.pool.specs.Ipv4.{ipv4};
+ghost use Rattle.rows.specs.Writes.{routeWrites, innerWrites, firstWrites, hangWrites, joinWrites};
 use pool::Place;
 use route::Route;
 
 // A route put into a place, with the link to the next.
 fn write_route(pool: &mut [u32], place: Place, route: Route, next: u32)
-    requires { ⌜ (layout.seat (place .0) + 5 < length (now pool)) × (place .0 ≤ 65535) ⌝ }
-    ensures { λ _. ⌜ now (pool .exit) ≡ writes (routeWrites (place .0) (routeOf route) next) (now (pool .entry)) ⌝ }
+    requires { ⌜ (ipv4 .seat (place .0) + ipv4 .nextOffset < length (now pool)) × (place .0 ≤ 65535) ⌝ }
+    ensures { λ _. ⌜ now (pool .exit) ≡ writes (routeWrites ipv4 (place .0) (routeOf route) next) (now (pool .entry)) ⌝ }
 {
     let at = pool::seat(place);
     let hop = route.hop;
@@ -25,8 +27,8 @@ fn write_route(pool: &mut [u32], place: Place, route: Route, next: u32)
 
 // The first route of an empty table.
 pub fn put_first(pool: &mut [u32], place: Place, route: Route)
-    requires { ⌜ (layout.seat (place .0) + 5 < length (now pool)) × (place .0 ≤ 65535) × (layout.countIn (now pool) ≤ 65535) ⌝ }
-    ensures { λ _. ⌜ now (pool .exit) ≡ writes (firstWrites (now (pool .entry)) (place .0) (routeOf route)) (now (pool .entry)) ⌝ }
+    requires { ⌜ (ipv4 .seat (place .0) + ipv4 .nextOffset < length (now pool)) × (place .0 ≤ 65535) × (layout.countIn (now pool) ≤ 65535) ⌝ }
+    ensures { λ _. ⌜ now (pool .exit) ≡ writes (firstWrites ipv4 (now (pool .entry)) (place .0) (routeOf route)) (now (pool .entry)) ⌝ }
 {
     let count = pool[1];
     write_route(pool, place, route, 0);
@@ -36,8 +38,8 @@ pub fn put_first(pool: &mut [u32], place: Place, route: Route)
 
 // Another length of a held address, at the cell between the longer and the shorter ones.
 pub fn put_hung(pool: &mut [u32], place: Place, route: Route, cell: usize)
-    requires { ⌜ (layout.seat (place .0) + 5 < length (now pool)) × (place .0 ≤ 65535) × (layout.countIn (now pool) ≤ 65535) × (cell < length (now pool)) ⌝ }
-    ensures { λ _. ⌜ now (pool .exit) ≡ writes (hangWrites (now (pool .entry)) (place .0) (routeOf route) cell) (now (pool .entry)) ⌝ }
+    requires { ⌜ (ipv4 .seat (place .0) + ipv4 .nextOffset < length (now pool)) × (place .0 ≤ 65535) × (layout.countIn (now pool) ≤ 65535) × (cell < length (now pool)) ⌝ }
+    ensures { λ _. ⌜ now (pool .exit) ≡ writes (hangWrites ipv4 (now (pool .entry)) (place .0) (routeOf route) cell) (now (pool .entry)) ⌝ }
 {
     let count = pool[1];
     let next = pool[cell];
@@ -48,8 +50,8 @@ pub fn put_hung(pool: &mut [u32], place: Place, route: Route, cell: usize)
 
 // An inner place that tests a bit.
 fn write_inner(pool: &mut [u32], capacity: usize, place: Place, index: u32, left: u32, right: u32)
-    requires { ⌜ (layout.joint capacity (place .0) + 2 < length (now pool)) × (capacity ≤ 65535) × (place .0 ≤ 65535) × (index < 32) ⌝ }
-    ensures { λ _. ⌜ now (pool .exit) ≡ writes (innerWrites capacity (place .0) index left right) (now (pool .entry)) ⌝ }
+    requires { ⌜ (ipv4 .joint capacity (place .0) + 2 < length (now pool)) × (capacity ≤ 65535) × (place .0 ≤ 65535) × (index < 32) ⌝ }
+    ensures { λ _. ⌜ now (pool .exit) ≡ writes (innerWrites ipv4 capacity (place .0) index left right) (now (pool .entry)) ⌝ }
 {
     let at = pool::joint(capacity, place);
     pool[at] = index + 1;
@@ -82,9 +84,9 @@ pub fn put_joined(
     cell: usize,
     index: u32,
 )
-    requires { ⌜ (layout.seat (place .0) + 5 < length (now pool)) × (place .0 ≤ 65535) × (layout.countIn (now pool) ≤ 65535) × (cell < length (now pool)) ⌝ }
-    requires { ⌜ (layout.joint capacity (inner .0) + 2 < length (now pool)) × (capacity ≤ 65535) × (inner .0 ≤ 65535) × (index < 32) ⌝ }
-    ensures { λ _. ⌜ now (pool .exit) ≡ writes (joinWrites (now (pool .entry)) capacity (place .0) (inner .0) (routeOf route) index cell) (now (pool .entry)) ⌝ }
+    requires { ⌜ (ipv4 .seat (place .0) + ipv4 .nextOffset < length (now pool)) × (place .0 ≤ 65535) × (layout.countIn (now pool) ≤ 65535) × (cell < length (now pool)) ⌝ }
+    requires { ⌜ (ipv4 .joint capacity (inner .0) + 2 < length (now pool)) × (capacity ≤ 65535) × (inner .0 ≤ 65535) × (index < 32) ⌝ }
+    ensures { λ _. ⌜ now (pool .exit) ≡ writes (joinWrites ipv4 (now (pool .entry)) capacity (place .0) (inner .0) (routeOf route) index cell) (now (pool .entry)) ⌝ }
 {
     let count = pool[1];
     let old = pool[cell];

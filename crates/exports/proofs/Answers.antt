@@ -6,10 +6,11 @@ use mathlib.Core.List.{List}
 use native.Mathlib.Omega.{arith}
 use borrow.Author.Tests.{eq-eqb, ne-eqb, lt-ltb, le-ltb}
 use lib.Dec.{eqb}
-use Rattle.model.specs.Ipv4.{Hop}
 use Rattle.model.specs.Call.{Call, Value}
-use Rattle.pool.specs.Layout.{rules, size}
+use Rattle.pool.specs.Layout.{size}
+use Rattle.pool.specs.Ipv4.{ipv4}
 use Rattle.promise.specs.Promise.{Promise, FreshPromise}
+use Rattle.promise.specs.Table.{Table}
 use Rattle.codes.specs.Codes.{wordsFor}
 
 -- ---- how many words
@@ -17,18 +18,19 @@ use Rattle.codes.specs.Codes.{wordsFor}
 pub no-words : (c : ℕ) → c ≡ 0 → 0 ≡ wordsFor c
 no-words c e = rw (eq-eqb c 0 e)
 
-pub past-words : (c : ℕ) → rules .limit < c → 0 ≡ wordsFor c
+pub past-words : (c : ℕ) → ipv4 .rules .limit < c → 0 ≡ wordsFor c
 past-words c h =
     let a : eqb c 0 ≡ false = ne-eqb c 0 (λ z. omega arith) in
-    rw (a, lt-ltb (rules .limit) c h)
+    rw (a, lt-ltb (ipv4 .rules .limit) c h)
 
-pub some-words : (c : ℕ) → (c ≡ 0 → ⊥) → c ≤ rules .limit → size c ≡ wordsFor c
-some-words c z h = rw (ne-eqb c 0 z, le-ltb (rules .limit) c h)
+pub some-words : (c : ℕ) → (c ≡ 0 → ⊥) → c ≤ ipv4 .rules .limit → size ipv4 c ≡ wordsFor c
+some-words c z h = rw (ne-eqb c 0 z, le-ltb (ipv4 .rules .limit) c h)
 
--- ---- the same promise of another name for the call, and of the number that goes out
+module _ {P : Type 0} (T : Table P) where
+  -- ---- the same promise of another name for the call, and of the number that goes out
 
-pub as-call : {c d : Call Hop} {ws zs : List ℕ} {n m : ℕ} {v : Value Hop} → c ≡ d → n ≡ m → Promise c ws zs m v → Promise d ws zs n v
-as-call {ws = ws} {zs = zs} {m = m} {v = v} e f p = rw f (subst (λ (x : Call Hop). Promise x ws zs m v) e p)
+  pub as-call : {c d : Call P} {ws zs : List ℕ} {n m : ℕ} {v : Value P} → c ≡ d → n ≡ m → Promise T c ws zs m v → Promise T d ws zs n v
+  as-call {ws = ws} {zs = zs} {m = m} {v = v} e f p = rw f (subst (λ (x : Call P). Promise T x ws zs m v) e p)
 
-pub as-fresh : {c : ℕ} {ws zs : List ℕ} {n m : ℕ} → n ≡ m → FreshPromise c ws zs m → FreshPromise c ws zs n
-as-fresh f p = rw f p
+  pub as-fresh : {c : ℕ} {ws zs : List ℕ} {n m : ℕ} → n ≡ m → FreshPromise T c ws zs m → FreshPromise T c ws zs n
+  as-fresh f p = rw f p

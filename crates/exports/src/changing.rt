@@ -1,5 +1,7 @@
 ghost use Rattle.model.specs.Call as call;
+ghost use Rattle.pool.specs.Ipv4.{ipv4};
 ghost use Rattle.promise.specs.Promise.{Promise};
+ghost use Rattle.promise.specs.Trees.{tree};
 ghost use Rattle.codes.specs.Codes.{prefixIn, routeIn};
 use codes::route_from;
 use route::Length;
@@ -14,7 +16,7 @@ pub extern "C" fn rishavand_add(
     port: u32,
     gateway: u32,
 ) -> u32
-    ensures { λ r. ⌜ Promise (call.add (routeIn address length kind port gateway)) (now (pool .entry)) (now (pool .exit)) r call.nothing ⌝ }
+    ensures { λ r. ⌜ Promise (tree ipv4) (call.add (routeIn address length kind port gateway)) (now (pool .entry)) (now (pool .exit)) r call.nothing ⌝ }
 {
     let route = route_from(address, length, kind, port, gateway);
     let done = table::add(pool, route);
@@ -30,7 +32,7 @@ pub extern "C" fn rishavand_change(
     port: u32,
     gateway: u32,
 ) -> u32
-    ensures { λ r. ⌜ Promise (call.change (routeIn address length kind port gateway)) (now (pool .entry)) (now (pool .exit)) r call.nothing ⌝ }
+    ensures { λ r. ⌜ Promise (tree ipv4) (call.change (routeIn address length kind port gateway)) (now (pool .entry)) (now (pool .exit)) r call.nothing ⌝ }
 {
     let route = route_from(address, length, kind, port, gateway);
     let done = table::change_hop(pool, route);
@@ -39,7 +41,7 @@ pub extern "C" fn rishavand_change(
 
 #[no_mangle]
 pub extern "C" fn rishavand_delete(pool: &mut [u32], address: u32, length: u32) -> u32
-    ensures { λ r. ⌜ Promise (call.delete (prefixIn address length)) (now (pool .entry)) (now (pool .exit)) r call.nothing ⌝ }
+    ensures { λ r. ⌜ Promise (tree ipv4) (call.delete (prefixIn address length)) (now (pool .entry)) (now (pool .exit)) r call.nothing ⌝ }
 {
     let prefix = Prefix::new(address, Length(length));
     let done = table::delete(pool, prefix);
@@ -48,7 +50,7 @@ pub extern "C" fn rishavand_delete(pool: &mut [u32], address: u32, length: u32) 
 
 #[no_mangle]
 pub extern "C" fn rishavand_open(pool: &mut [u32]) -> u32
-    ensures { λ r. ⌜ Promise call.openTrial (now (pool .entry)) (now (pool .exit)) r call.nothing ⌝ }
+    ensures { λ r. ⌜ Promise (tree ipv4) call.openTrial (now (pool .entry)) (now (pool .exit)) r call.nothing ⌝ }
 {
     let done = table::open_trial(pool);
     done.number()
@@ -56,7 +58,7 @@ pub extern "C" fn rishavand_open(pool: &mut [u32]) -> u32
 
 #[no_mangle]
 pub extern "C" fn rishavand_keep(pool: &mut [u32]) -> u32
-    ensures { λ r. ⌜ Promise call.keep (now (pool .entry)) (now (pool .exit)) r call.nothing ⌝ }
+    ensures { λ r. ⌜ Promise (tree ipv4) call.keep (now (pool .entry)) (now (pool .exit)) r call.nothing ⌝ }
 {
     let done = table::keep_trial(pool);
     done.number()
@@ -64,7 +66,7 @@ pub extern "C" fn rishavand_keep(pool: &mut [u32]) -> u32
 
 #[no_mangle]
 pub extern "C" fn rishavand_back_out(pool: &mut [u32]) -> u32
-    ensures { λ r. ⌜ Promise call.backOut (now (pool .entry)) (now (pool .exit)) r call.nothing ⌝ }
+    ensures { λ r. ⌜ Promise (tree ipv4) call.backOut (now (pool .entry)) (now (pool .exit)) r call.nothing ⌝ }
 {
     let done = table::back_out(pool);
     done.number()
@@ -72,7 +74,7 @@ pub extern "C" fn rishavand_back_out(pool: &mut [u32]) -> u32
 
 #[no_mangle]
 pub extern "C" fn rishavand_step_back(pool: &mut [u32]) -> u32
-    ensures { λ r. ⌜ Promise call.stepBack (now (pool .entry)) (now (pool .exit)) r call.nothing ⌝ }
+    ensures { λ r. ⌜ Promise (tree ipv4) call.stepBack (now (pool .entry)) (now (pool .exit)) r call.nothing ⌝ }
 {
     let done = table::step_back(pool);
     done.number()

@@ -1,5 +1,7 @@
 ghost use Rattle.model.specs.Call as call;
-ghost use Rattle.pool.specs.Means.{Sound};
+ghost use Rattle.pool.specs.Ipv4.{ipv4};
+ghost use Rattle.promise.specs.Table.{Sound};
+ghost use Rattle.promise.specs.Trees.{tree};
 ghost use Rattle.promise.specs.Promise.{Promise, LookupPromise};
 ghost use Rattle.codes.specs.Codes.{prefixIn};
 ghost use Rattle.codes.specs.Out.{Out};
@@ -13,14 +15,14 @@ use route::Room;
 // 1 for a sound pool, 0 for any other.
 #[no_mangle]
 pub extern "C" fn rishavand_sound(pool: &[u32]) -> u32
-    ensures { λ r. ⌜ YesNo r (Sound (now (pool .entry))) ⌝ }
+    ensures { λ r. ⌜ YesNo r (Sound (tree ipv4) (now (pool .entry))) ⌝ }
 {
     if table::sound(pool) { 1 } else { 0 }
 }
 
 #[no_mangle]
 pub extern "C" fn rishavand_lookup(pool: &[u32], destination: u32, route: &mut [u32; 5]) -> u32
-    ensures { λ r. ⌜ Out (LookupPromise destination (now (pool .entry))) r (now (route .entry)) (now (route .exit)) ⌝ }
+    ensures { λ r. ⌜ Out (LookupPromise (tree ipv4) destination (now (pool .entry))) r (now (route .entry)) (now (route .exit)) ⌝ }
 {
     let answer = table::lookup(pool, destination);
     show(answer, route)
@@ -28,7 +30,7 @@ pub extern "C" fn rishavand_lookup(pool: &[u32], destination: u32, route: &mut [
 
 #[no_mangle]
 pub extern "C" fn rishavand_first(pool: &[u32], route: &mut [u32; 5]) -> u32
-    ensures { λ r. ⌜ Out (Promise call.first (now (pool .entry)) (now (pool .entry))) r (now (route .entry)) (now (route .exit)) ⌝ }
+    ensures { λ r. ⌜ Out (Promise (tree ipv4) call.first (now (pool .entry)) (now (pool .entry))) r (now (route .entry)) (now (route .exit)) ⌝ }
 {
     let answer = table::first(pool);
     show(answer, route)
@@ -41,7 +43,7 @@ pub extern "C" fn rishavand_next(
     length: u32,
     route: &mut [u32; 5],
 ) -> u32
-    ensures { λ r. ⌜ Out (Promise (call.after (prefixIn address length)) (now (pool .entry)) (now (pool .entry))) r (now (route .entry)) (now (route .exit)) ⌝ }
+    ensures { λ r. ⌜ Out (Promise (tree ipv4) (call.after (prefixIn address length)) (now (pool .entry)) (now (pool .entry))) r (now (route .entry)) (now (route .exit)) ⌝ }
 {
     let prefix = Prefix::new(address, Length(length));
     let answer = table::next(pool, prefix);
@@ -50,7 +52,7 @@ pub extern "C" fn rishavand_next(
 
 #[no_mangle]
 pub extern "C" fn rishavand_room(pool: &[u32], room: &mut [u32; 1]) -> u32
-    ensures { λ r. ⌜ Out (Promise call.room (now (pool .entry)) (now (pool .entry))) r (now (room .entry)) (now (room .exit)) ⌝ }
+    ensures { λ r. ⌜ Out (Promise (tree ipv4) call.room (now (pool .entry)) (now (pool .entry))) r (now (room .entry)) (now (room .exit)) ⌝ }
 {
     let answer = table::room_left(pool);
     let Room::Left(left) = answer else {
@@ -62,7 +64,7 @@ pub extern "C" fn rishavand_room(pool: &[u32], room: &mut [u32; 1]) -> u32
 
 #[no_mangle]
 pub extern "C" fn rishavand_mask_length(mask: u32, length: &mut [u32; 1]) -> u32
-    ensures { λ r. ⌜ Out (MaskPromise mask) r (now (length .entry)) (now (length .exit)) ⌝ }
+    ensures { λ r. ⌜ Out (MaskPromise (tree ipv4) mask) r (now (length .entry)) (now (length .exit)) ⌝ }
 {
     let answer = table::mask_length(mask);
     let Measured::Length(ones) = answer else {

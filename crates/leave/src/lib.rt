@@ -4,14 +4,16 @@ ghost use Prim.Native.Nat.{_+_, _≤_, _<_};
 ghost use lib.ListN.{length};
 ghost use Rattle.route.specs.Means.{hopOf};
 ghost use Rattle.pool.specs.Layout as layout;
-ghost use Rattle.rows.specs.Writes.{writes, linkWrites, dropWrites, lastWrites, hopWrites};
+ghost use Rattle.pool.specs.Write.{writes};
+ghost use Rattle.pool.specs.Ipv4.{ipv4};
+ghost use Rattle.rows.specs.Writes.{linkWrites, dropWrites, lastWrites, swapWrites};
 use pool::Place;
 use route::Hop;
 
 // A route out of a chain that goes on: the cell links past it.
 pub fn take_link(pool: &mut [u32], cell: usize, place: Place)
-    requires { ⌜ (layout.seat (place .0) + 5 < length (now pool)) × (place .0 ≤ 65535) × (1 ≤ layout.countIn (now pool)) × (cell < length (now pool)) ⌝ }
-    ensures { λ _. ⌜ now (pool .exit) ≡ writes (linkWrites (now (pool .entry)) (place .0) cell) (now (pool .entry)) ⌝ }
+    requires { ⌜ (ipv4 .seat (place .0) + ipv4 .nextOffset < length (now pool)) × (place .0 ≤ 65535) × (1 ≤ layout.countIn (now pool)) × (cell < length (now pool)) ⌝ }
+    ensures { λ _. ⌜ now (pool .exit) ≡ writes (linkWrites ipv4 (now (pool .entry)) (place .0) cell) (now (pool .entry)) ⌝ }
 {
     let count = pool[1];
     let at = pool::seat(place);
@@ -30,9 +32,9 @@ pub fn take_leaf(
     link: u32,
     place: Place,
 )
-    requires { ⌜ (layout.seat (place .0) + 5 < length (now pool)) × (place .0 ≤ 65535) × (1 ≤ layout.countIn (now pool)) × (up < length (now pool)) ⌝ }
-    requires { ⌜ (layout.joint capacity (inner .0) < length (now pool)) × (capacity ≤ 65535) × (inner .0 ≤ 65535) ⌝ }
-    ensures { λ _. ⌜ now (pool .exit) ≡ writes (dropWrites (now (pool .entry)) capacity (place .0) (inner .0) up link) (now (pool .entry)) ⌝ }
+    requires { ⌜ (ipv4 .seat (place .0) + ipv4 .nextOffset < length (now pool)) × (place .0 ≤ 65535) × (1 ≤ layout.countIn (now pool)) × (up < length (now pool)) ⌝ }
+    requires { ⌜ (ipv4 .joint capacity (inner .0) < length (now pool)) × (capacity ≤ 65535) × (inner .0 ≤ 65535) ⌝ }
+    ensures { λ _. ⌜ now (pool .exit) ≡ writes (dropWrites ipv4 (now (pool .entry)) capacity (place .0) (inner .0) up link) (now (pool .entry)) ⌝ }
 {
     let count = pool[1];
     let at = pool::seat(place);
@@ -45,8 +47,8 @@ pub fn take_leaf(
 
 // The table's last route.
 pub fn take_last(pool: &mut [u32], place: Place)
-    requires { ⌜ (layout.seat (place .0) + 5 < length (now pool)) × (place .0 ≤ 65535) × (1 ≤ layout.countIn (now pool)) ⌝ }
-    ensures { λ _. ⌜ now (pool .exit) ≡ writes (lastWrites (now (pool .entry)) (place .0)) (now (pool .entry)) ⌝ }
+    requires { ⌜ (ipv4 .seat (place .0) + ipv4 .nextOffset < length (now pool)) × (place .0 ≤ 65535) × (1 ≤ layout.countIn (now pool)) ⌝ }
+    ensures { λ _. ⌜ now (pool .exit) ≡ writes (lastWrites ipv4 (now (pool .entry)) (place .0)) (now (pool .entry)) ⌝ }
 {
     let count = pool[1];
     let at = pool::seat(place);
@@ -57,8 +59,8 @@ pub fn take_last(pool: &mut [u32], place: Place)
 
 // Another hop in a place.
 pub fn swap_hop(pool: &mut [u32], place: Place, hop: Hop)
-    requires { ⌜ (layout.seat (place .0) + 5 < length (now pool)) × (place .0 ≤ 65535) ⌝ }
-    ensures { λ _. ⌜ now (pool .exit) ≡ writes (hopWrites (place .0) (hopOf hop)) (now (pool .entry)) ⌝ }
+    requires { ⌜ (ipv4 .seat (place .0) + ipv4 .nextOffset < length (now pool)) × (place .0 ≤ 65535) ⌝ }
+    ensures { λ _. ⌜ now (pool .exit) ≡ writes (swapWrites ipv4 (place .0) (hopOf hop)) (now (pool .entry)) ⌝ }
 {
     let at = pool::seat(place);
     pool::write_hop(pool, at, hop);

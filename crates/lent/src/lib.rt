@@ -1,4 +1,6 @@
 // What lent words are before anything is done to them: which capacity they say, and whether they are a sound pool.
+ghost use Rattle.pool.specs.Ipv4.{ipv4};
+ghost use Rattle.promise.specs.Trees.{tree};
 ghost use Rattle.lent.specs.Own.{OwnRight, TestedRight};
 
 // The capacity that a pool says, where it is one that a table may have and the words are enough for it.
@@ -9,7 +11,7 @@ pub enum Own {
 
 // What can be known before a word behind the first is read.
 pub fn own_words(pool: &[u32]) -> Own
-    ensures { λ r. ⌜ OwnRight (now (pool .entry)) r ⌝ }
+    ensures { λ r. ⌜ OwnRight (tree ipv4) (now (pool .entry)) r ⌝ }
 {
     if pool.len() == 0 {
         return Own::Short;
@@ -36,7 +38,7 @@ pub enum Verdict {
 
 // The whole pool is tested before a change, a trial, a walk or the room.
 pub fn tested(pool: &[u32]) -> Verdict
-    ensures { λ r. ⌜ TestedRight (now (pool .entry)) r ⌝ }
+    ensures { λ r. ⌜ TestedRight (tree ipv4) (now (pool .entry)) r ⌝ }
 {
     let Own::Capacity(capacity) = own_words(pool) else {
         return Verdict::NotSound;

@@ -32,7 +32,7 @@ module _ {P : Type 0} (R : Rules P) where
     pub result : next R c (some s) ≡ some (changeTo s (act d (s .routes)) change)
     pub recorded : Recorded R (s .routes) (act d (s .routes)) change
 
-  changed-add : (r : Route P) (s : State P) → Lawful R s → accepted R (add r) (some s) ≡ true → Changed s (add r) (put r)
+  pub changed-add : (r : Route P) (s : State P) → Lawful R s → accepted R (add r) (some s) ≡ true → Changed s (add r) (put r)
   changed-add r s w t =
       let q = accepted-quiet R (add r) (some s) t in
       let may = both _ (R .mayHold (r .prefix)) (not-false _ (q .1 .0)) in record {
@@ -41,7 +41,7 @@ module _ {P : Type 0} (R : Rules P) where
         recorded = recorded-add R (s .routes) (w .ordered) (w .obeyed) r (absent (r .prefix) (s .routes) (q .1 .1 .1 .0)) (may .0, may .1, not-false _ (q .1 .1 .0));
       }
 
-  changed-delete : (p : Prefix) (s : State P) → Lawful R s → accepted R (delete p) (some s) ≡ true → Changed s (delete p) (drop p)
+  pub changed-delete : (p : Prefix) (s : State P) → Lawful R s → accepted R (delete p) (some s) ≡ true → Changed s (delete p) (drop p)
   changed-delete p s w t =
       let q = accepted-quiet R (delete p) (some s) t in
       let f = there p (s .routes) (not-false _ (q .1 .1 .0)) in record {
@@ -50,7 +50,7 @@ module _ {P : Type 0} (R : Rules P) where
         recorded = recorded-delete R (s .routes) (w .ordered) (w .obeyed) p (f .0) (f .1);
       }
 
-  changed-change : (r : Route P) (s : State P) → Lawful R s → accepted R (change r) (some s) ≡ true → Changed s (change r) (swap r)
+  pub changed-change : (r : Route P) (s : State P) → Lawful R s → accepted R (change r) (some s) ≡ true → Changed s (change r) (swap r)
   changed-change r s w t =
       let q = accepted-quiet R (change r) (some s) t in
       let f = there (r .prefix) (s .routes) (not-false _ (q .1 .1 .1 .0)) in record {

@@ -6,7 +6,9 @@ use denote.Enum as enum
 use types.Run.{OneOf, miss}
 use Rattle.model.specs.Ipv4 as ipv4
 use Rattle.model.specs.Call as call
+use Rattle.pool.specs.Ipv4.{ipv4 as words4}
 use Rattle.promise.specs.Promise.{Promise}
+use Rattle.promise.specs.Trees.{tree}
 use Rattle.command.specs.declared.asked.Command.{Command}
 use Rattle.command.proofs.asked.Command as command
 use Rattle.perform.specs.declared.Changed.{Changed}
@@ -17,7 +19,7 @@ pub known : {k k' : Command} (ws zs : List ℕ) (r : Changed) → k ≡ k' → P
 known ws zs r e d = subst (λ (x : Command). Performs x ws zs r) (sym e) d
 
 -- the number of a call
-pub calls : {c : call.Call ipv4.Hop} {ws zs : List ℕ} {n m : ℕ} → n ≡ m → Promise c ws zs m call.nothing → Calls c ws zs (Changed.Number n)
+pub calls : {c : call.Call ipv4.Hop} {ws zs : List ℕ} {n m : ℕ} → n ≡ m → Promise (tree words4) c ws zs m call.nothing → Calls c ws zs (Changed.Number n)
 calls {m = m} e p = (m, ap Changed.Number e, p)
 
 -- the commands that change no word, by their numbers in the code

@@ -7,17 +7,19 @@ use lib.ListN.{length, set}
 use Rattle.model.specs.Ipv4 as ipv4
 use Rattle.model.specs.Call as call
 use Rattle.route.specs.Means.{prefixOf, routeOf}
+use Rattle.pool.specs.Ipv4.{ipv4 as words4}
 use Rattle.promise.specs.Promise.{Promise, FreshPromise}
+use Rattle.promise.specs.Trees.{tree}
 use Rattle.command.specs.declared.asked.Command.{Command}
 use Rattle.perform.specs.declared.Changed.{Changed}
 
 -- The number is the one that the call's promise gives.
 abbrev pub Calls : call.Call ipv4.Hop → List ℕ → List ℕ → Changed → Type 0
-Calls c ws zs r = (n : ℕ) × (r ≡ Changed.Number n) × Promise c ws zs n call.nothing
+Calls c ws zs r = (n : ℕ) × (r ≡ Changed.Number n) × Promise (tree words4) c ws zs n call.nothing
 
 -- The same of a fresh table.
 abbrev pub Begins : ℕ → List ℕ → List ℕ → Changed → Type 0
-Begins c ws zs r = (n : ℕ) × (r ≡ Changed.Number n) × FreshPromise c ws zs n
+Begins c ws zs r = (n : ℕ) × (r ≡ Changed.Number n) × FreshPromise (tree words4) c ws zs n
 
 -- A word inside the buffer is written; outside it nothing is.
 abbrev pub Pokes : ℕ → ℕ → List ℕ → List ℕ → Changed → Type 0

@@ -1,24 +1,23 @@
 -- The leaf at the end of a way, in a pool that holds a tree: its cell, its address and its routes.
-use Prim.Native.Nat.{ℕ, _+_}
+use Prim.Native.Nat.{ℕ}
 use mathlib.Core.Path.{_≡_, sym, ap, subst, _∙_}
 use mathlib.Core.List.{List, _∷_}
 use mathlib.Core.Option.{some}
 use native.Mathlib.Omega.{arith}
 use Rattle.model.specs.Prefix.{Prefix}
 use Rattle.model.specs.Routes.{Route, InOrder, find}
-use Rattle.model.specs.Ipv4.{Hop}
 use Rattle.patricia.specs.Way.{reached}
 use Rattle.patricia.specs.Good.{Good}
 use Rattle.patricia.specs.Tree.{Tree, leaf, hung, routes}
 use Rattle.patricia.proofs.Form.{routes-in-order}
 use Rattle.patricia.proofs.Find.{findIn, find-in}
 use Rattle.patricia.proofs.Zip.{find-plug, reached-plug}
-use Rattle.pool.specs.Layout.{word, seat, rootIn, prefixAt}
+use Rattle.pool.specs.Layout.{word, Layout, rootIn, heldPrefix}
 use Rattle.pool.specs.Link.{toRoute}
 use Rattle.pool.specs.Holds.{Seated, bare, bareEntries, Chain, Holds}
 use Rattle.pool.specs.declared.link.Place.{Place}
+use Rattle.pool.proofs.Laid.{Laid}
 use Rattle.search.specs.Down.{Led, Ways}
-use Rattle.search.specs.declared.descent.Way.{Way}
 use Rattle.search.specs.declared.descent.End as end
 use Rattle.search.proofs.Bare.{bareWay, bare-follows}
 use Rattle.search.proofs.Led.{led-chain, led-bare, led-good}
@@ -29,54 +28,56 @@ use Rattle.plan.proofs.Way.{HoldsWay, plug-way}
 use Rattle.plan.proofs.CellAt.{right-cell}
 use Rattle.plan.proofs.Lengths.{found-has}
 
--- where there is no root the way ends nowhere
-pub rooted : (c : ℕ) (ws : List ℕ) (d : ℕ) (way : Way) (i : Place) → Ways c ws d way → way .end ≡ end.End.Leaf i → rootIn ws ≡ 0 → ⊥
-rooted c ws d way i ways e z = let f = ways .empty z in let y : _≡_ {A = ℕ} 0 1 = cc in omega arith
+module _ {P : Type 0} (L : Layout P) where
+  -- where there is no root the way ends nowhere
+  pub rooted : (c : ℕ) (ws : List ℕ) (d : ℕ) (inner : List ℕ) (deep : ℕ) (stop : end.End) (i : Place) → Ways L c ws d inner deep stop → stop ≡ end.End.Leaf i → rootIn ws ≡ 0 → ⊥
+  rooted c ws d inner deep stop i ways e z = let f = ways .empty z in let y : _≡_ {A = ℕ} 0 1 = cc in omega arith
 
-module _ (c : ℕ) (ws : List ℕ) (p : Prefix) (way : Way) (t : Seated) (h : Holds c ws (rootIn ws) t) (g : Good 32 (bare t)) (l : Led c ws (p .address) way t) where
-  -- the way and the leaf stand in the words
-  lead-parts : HoldsWay c ws (l .way) × Holds c ws (word ws (cellOf c (l .way))) (leaf (l .address) (l .entry ∷ l .rest))
-  lead-parts = plug-way c ws (l .way) (leaf (l .address) (l .entry ∷ l .rest)) (subst (Holds c ws (word ws 2)) (sym (l .whole)) h)
+module _ {P : Type 0} (L : Layout P) (laid : Laid L) where
+  module _ (c : ℕ) (ws : List ℕ) (p : Prefix) (inner : List ℕ) (deep : ℕ) (stop : end.End) (t : Seated P) (h : Holds L c ws (rootIn ws) t) (g : Good (L .rules .width) (bare t)) (l : Led L c ws (p .address) inner deep stop t) where
+    -- the way and the leaf stand in the words
+    lead-parts : HoldsWay L c ws (l .way) × Holds L c ws (word ws (cellOf L c (l .way))) (leaf (l .address) (l .entry ∷ l .rest))
+    lead-parts = plug-way L c ws (l .way) (leaf (l .address) (l .entry ∷ l .rest)) (subst (Holds L c ws (word ws 2)) (sym (l .whole)) h)
 
-  pub lead-way : HoldsWay c ws (l .way)
-  lead-way = lead-parts .0
+    pub lead-way : HoldsWay L c ws (l .way)
+    lead-way = lead-parts .0
 
-  pub lead-leaf : Chain c ws (l .address) (word ws (cellOf c (l .way))) (l .entry ∷ l .rest)
-  lead-leaf = lead-parts .1
+    pub lead-leaf : Chain L c ws (l .address) (word ws (cellOf L c (l .way))) (l .entry ∷ l .rest)
+    lead-leaf = lead-parts .1
 
-  -- the cell that the code works out is the leaf's
-  pub lead-cell : (r : ℕ) → CellRight c ws (way .inner) (way .depth) (p .address) r → cellOf c (l .way) ≡ r
-  lead-cell r x = right-cell c ws (way .inner) (way .depth) (p .address) r (l .way) x (l .steps) (l .places) (l .follows) lead-way
+    -- the cell that the code works out is the leaf's
+    pub lead-cell : (r : ℕ) → CellRight L c ws inner deep (p .address) r → cellOf L c (l .way) ≡ r
+    lead-cell r x = right-cell L laid c ws inner deep (p .address) r (l .way) x (l .steps) (l .places) (l .follows) lead-way
 
-  -- its routes are in walk order
-  pub lead-order : InOrder (hung (l .address) (bareEntries (l .entry ∷ l .rest)))
-  lead-order = routes-in-order {N = ℕ} 32 (leaf (l .address) (bareEntries (l .entry ∷ l .rest))) (led-good c ws (p .address) way t l g)
+    -- its routes are in walk order
+    pub lead-order : InOrder (hung (l .address) (bareEntries (l .entry ∷ l .rest)))
+    lead-order = routes-in-order {N = ℕ} (L .rules .width) (leaf (l .address) (bareEntries (l .entry ∷ l .rest))) (led-good L c ws (p .address) inner deep stop t l g)
 
-  -- the prefix is there or nowhere
-  pub lead-find : find p (routes (bare t)) ≡ find p (hung (l .address) (bareEntries (l .entry ∷ l .rest)))
-  lead-find =
-      let part : Tree ℕ Hop = leaf (l .address) (bareEntries (l .entry ∷ l .rest)) in
-      sym (find-in 32 p (bare t) g) ∙ ap (findIn 32 p) (led-bare c ws (p .address) way t l)
-      ∙ find-plug 32 p (bareWay (l .way)) part (bare-follows (p .address) (l .way) (l .follows)) ∙ find-in 32 p part (led-good c ws (p .address) way t l g)
+    -- the prefix is there or nowhere
+    pub lead-find : find p (routes (bare t)) ≡ find p (hung (l .address) (bareEntries (l .entry ∷ l .rest)))
+    lead-find =
+        let part : Tree ℕ P = leaf (l .address) (bareEntries (l .entry ∷ l .rest)) in
+        sym (find-in (L .rules .width) p (bare t) g) ∙ ap (findIn (L .rules .width) p) (led-bare L c ws (p .address) inner deep stop t l)
+        ∙ find-plug (L .rules .width) p (bareWay (l .way)) part (bare-follows (L .rules .width) (p .address) (l .way) (l .follows)) ∙ find-in (L .rules .width) p part (led-good L c ws (p .address) inner deep stop t l g)
 
-  -- its address is the one that is reached
-  pub lead-reached : reached 32 (p .address) (bare t) ≡ l .address
-  lead-reached =
-      ap (reached 32 (p .address)) (led-bare c ws (p .address) way t l)
-      ∙ reached-plug 32 (p .address) (bareWay (l .way)) (leaf (l .address) (bareEntries (l .entry ∷ l .rest))) (bare-follows (p .address) (l .way) (l .follows))
+    -- its address is the one that is reached
+    pub lead-reached : reached (L .rules .width) (p .address) (bare t) ≡ l .address
+    lead-reached =
+        ap (reached (L .rules .width) (p .address)) (led-bare L c ws (p .address) inner deep stop t l)
+        ∙ reached-plug (L .rules .width) (p .address) (bareWay (l .way)) (leaf (l .address) (bareEntries (l .entry ∷ l .rest))) (bare-follows (L .rules .width) (p .address) (l .way) (l .follows))
 
-  module _ (i : Place) (e : way .end ≡ end.End.Leaf i) where
-    lead-place : l .entry .payload .place ≡ i .0
-    lead-place = omega (arith, led-chain c ws (p .address) way t l i e .0)
+    module _ (i : Place) (e : stop ≡ end.End.Leaf i) where
+      lead-place : l .entry .payload .place ≡ i .0
+      lead-place = omega (arith, led-chain L c ws (p .address) inner deep stop t l i e .0)
 
-    -- and stands in the first place
-    pub lead-address : prefixAt ws (seat (i .0) + 3) .address ≡ l .address
-    lead-address = ap (λ (k : ℕ). prefixAt ws (seat k + 3) .address) (sym lead-place) ∙ l .hangs .1 .addressThere
+      -- and stands in the first place
+      pub lead-address : heldPrefix L ws (i .0) .address ≡ l .address
+      lead-address = ap (λ (k : ℕ). heldPrefix L ws k .address) (sym lead-place) ∙ l .hangs .1 .addressThere
 
-    -- the cell links to the first place
-    pub lead-link : (r : ℕ) → CellRight c ws (way .inner) (way .depth) (p .address) r → word ws r ≡ toRoute (i .0)
-    lead-link r x = ap (word ws) (sym (lead-cell r x)) ∙ lead-leaf .0 ∙ ap toRoute lead-place
+      -- the cell links to the first place
+      pub lead-link : (r : ℕ) → CellRight L c ws inner deep (p .address) r → word ws r ≡ toRoute (i .0)
+      lead-link r x = ap (word ws) (sym (lead-cell r x)) ∙ lead-leaf .0 ∙ ap toRoute lead-place
 
-  -- a prefix that is found has the leaf's address, and one of its lengths
-  pub lead-found : (q : Route Hop) → find p (routes (bare t)) ≡ some q → (p .address ≡ l .address) × Has (p .length) (l .entry ∷ l .rest)
-  lead-found q e = found-has p q (l .address) (l .entry ∷ l .rest) (sym lead-find ∙ e)
+    -- a prefix that is found has the leaf's address, and one of its lengths
+    pub lead-found : (q : Route P) → find p (routes (bare t)) ≡ some q → (p .address ≡ l .address) × Has (p .length) (l .entry ∷ l .rest)
+    lead-found q e = found-has p q (l .address) (l .entry ∷ l .rest) (sym lead-find ∙ e)

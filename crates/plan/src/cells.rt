@@ -1,4 +1,5 @@
 ghost use Prim.Native.Nat.{_<_};
+ghost use Rattle.pool.specs.Ipv4.{ipv4};
 ghost use Rattle.pool.specs.Fit.{Fit};
 ghost use Rattle.plan.specs.Steps.{WayUsable, CellRight, LevelRight, ChainCell};
 use pool::Place;
@@ -13,9 +14,9 @@ pub fn cell_of(
     depth: usize,
     address: u32,
 ) -> usize
-    requires { ⌜ Fit capacity (now pool) ⌝ }
-    requires { ⌜ WayUsable capacity (now pool) inner depth ⌝ }
-    ensures { λ r. ⌜ CellRight capacity (now (pool .entry)) inner depth address r ⌝ }
+    requires { ⌜ Fit ipv4 capacity (now pool) ⌝ }
+    requires { ⌜ WayUsable ipv4 capacity (now pool) inner depth ⌝ }
+    ensures { λ r. ⌜ CellRight ipv4 capacity (now (pool .entry)) inner depth address r ⌝ }
 {
     if depth == 0 {
         return 2;
@@ -34,9 +35,9 @@ pub fn level_of(
     depth: usize,
     index: u32,
 ) -> usize
-    requires { ⌜ Fit capacity (now pool) ⌝ }
-    requires { ⌜ WayUsable capacity (now pool) inner depth ⌝ }
-    ensures { λ r. ⌜ LevelRight capacity (now (pool .entry)) inner depth index r ⌝ }
+    requires { ⌜ Fit ipv4 capacity (now pool) ⌝ }
+    requires { ⌜ WayUsable ipv4 capacity (now pool) inner depth ⌝ }
+    ensures { λ r. ⌜ LevelRight ipv4 capacity (now (pool .entry)) inner depth index r ⌝ }
 {
     let mut level: usize = 0;
     while level < depth {
@@ -51,9 +52,9 @@ pub fn level_of(
 
 // The routes of an address hang longest first, so the cell is before the first that is not longer.
 pub fn chain_cell(pool: &[u32], capacity: usize, from: usize, first: Place, length: Length) -> usize
-    requires { ⌜ Fit capacity (now pool) ⌝ }
+    requires { ⌜ Fit ipv4 capacity (now pool) ⌝ }
     requires { ⌜ first .0 < capacity ⌝ }
-    ensures { λ r. ⌜ ChainCell capacity (now (pool .entry)) from (first .0) (length .0) r ⌝ }
+    ensures { λ r. ⌜ ChainCell ipv4 capacity (now (pool .entry)) from (first .0) (length .0) r ⌝ }
 {
     let mut cell = from;
     let mut place = first;

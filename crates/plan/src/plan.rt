@@ -1,6 +1,7 @@
 ghost use Prim.Native.Nat.{_<_};
 ghost use lib.ListN.{length as count};
 ghost use Rattle.route.specs.Means.{prefixOf};
+ghost use Rattle.pool.specs.Ipv4.{ipv4};
 ghost use Rattle.pool.specs.Fit.{Fit};
 ghost use Rattle.plan.specs.Steps.{WayUsable};
 ghost use Rattle.plan.specs.Plan.{PutRight};
@@ -43,9 +44,9 @@ pub enum HeldAt {
 
 // The leaf that the address leads to is its own, or shows by its bits where the two part.
 pub fn plan_put(pool: &[u32], capacity: usize, prefix: Prefix) -> PutPlan
-    requires { ⌜ Fit capacity (now pool) ⌝ }
-    ensures { λ r. ⌜ PutRight capacity (now (pool .entry)) (prefixOf prefix) r ⌝ }
-    ensures { λ r. ⌜ PutInPool (now (pool .entry)) r ⌝ }
+    requires { ⌜ Fit ipv4 capacity (now pool) ⌝ }
+    ensures { λ r. ⌜ PutRight ipv4 capacity (now (pool .entry)) (prefixOf prefix) r ⌝ }
+    ensures { λ r. ⌜ PutInPool 32 (now (pool .entry)) r ⌝ }
 {
     let way = search::down(pool, capacity, prefix.address);
     let inner = way.inner;
@@ -68,9 +69,9 @@ pub fn plan_put(pool: &[u32], capacity: usize, prefix: Prefix) -> PutPlan
 
 // The first route that is not longer is the one of this length, where there is one.
 fn hung_at(pool: &[u32], capacity: usize, from: usize, first: Place, length: Length) -> HeldAt
-    requires { ⌜ Fit capacity (now pool) ⌝ }
+    requires { ⌜ Fit ipv4 capacity (now pool) ⌝ }
     requires { ⌜ (first .0 < capacity) × (from < count (now pool)) ⌝ }
-    ensures { λ r. ⌜ HungFrom capacity (now (pool .entry)) from (first .0) (length .0) r ⌝ }
+    ensures { λ r. ⌜ HungFrom ipv4 capacity (now (pool .entry)) from (first .0) (length .0) r ⌝ }
 {
     let cell = chain_cell(pool, capacity, from, first, length);
     match pool::link_from(pool[cell]) {
@@ -88,8 +89,8 @@ fn hung_at(pool: &[u32], capacity: usize, from: usize, first: Place, length: Len
 
 // Down by the address and along its routes. An absent prefix may be given the place of another.
 pub fn held_at(pool: &[u32], capacity: usize, prefix: Prefix) -> HeldAt
-    requires { ⌜ Fit capacity (now pool) ⌝ }
-    ensures { λ r. ⌜ HeldRight capacity (now (pool .entry)) (prefixOf prefix) r ⌝ }
+    requires { ⌜ Fit ipv4 capacity (now pool) ⌝ }
+    ensures { λ r. ⌜ HeldRight ipv4 capacity (now (pool .entry)) (prefixOf prefix) r ⌝ }
 {
     let way = search::down(pool, capacity, prefix.address);
     let inner = way.inner;
@@ -113,10 +114,10 @@ fn plan_lone(
     address: u32,
     place: Place,
 ) -> TakePlan
-    requires { ⌜ Fit capacity (now pool) ⌝ }
-    requires { ⌜ WayUsable capacity (now pool) inner depth ⌝ }
+    requires { ⌜ Fit ipv4 capacity (now pool) ⌝ }
+    requires { ⌜ WayUsable ipv4 capacity (now pool) inner depth ⌝ }
     requires { ⌜ place .0 < capacity ⌝ }
-    ensures { λ r. ⌜ LoneRight capacity (now (pool .entry)) inner depth address (place .0) r ⌝ }
+    ensures { λ r. ⌜ LoneRight ipv4 capacity (now (pool .entry)) inner depth address (place .0) r ⌝ }
 {
     if depth == 0 {
         return TakePlan::Last(place);
@@ -134,8 +135,8 @@ fn plan_lone(
 
 // A route that has others of its address before or behind it leaves a leaf; one alone takes its leaf along.
 pub fn plan_take(pool: &[u32], capacity: usize, prefix: Prefix) -> TakePlan
-    requires { ⌜ Fit capacity (now pool) ⌝ }
-    ensures { λ r. ⌜ TakeRight capacity (now (pool .entry)) (prefixOf prefix) r ⌝ }
+    requires { ⌜ Fit ipv4 capacity (now pool) ⌝ }
+    ensures { λ r. ⌜ TakeRight ipv4 capacity (now (pool .entry)) (prefixOf prefix) r ⌝ }
 {
     let way = search::down(pool, capacity, prefix.address);
     let inner = way.inner;

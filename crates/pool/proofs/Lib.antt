@@ -1,6 +1,10 @@
 pub mod Words
+pub mod Writes
+pub mod Laid
+pub mod Ipv4
 pub mod Unique
 pub mod Frame
 pub mod Local
 pub mod Distinct
 pub mod Places
+pub mod Few

@@ -5,7 +5,8 @@ use mathlib.Core.List.{List}
 use native.Mathlib.Omega.{arith}
 use borrow.Author.Tests.{eq-eqb, ne-eqb}
 use Rattle.model.specs.Ipv4.{direct, via, reject}
-use Rattle.pool.specs.Layout.{word, hopFrom, hopAt}
+use Rattle.pool.specs.Layout.{word}
+use Rattle.pool.specs.Ipv4.{hopFrom, hopAt}
 use Rattle.pool.specs.Link.{linkFrom, toRoute, toInner}
 use Rattle.pool.specs.declared.link.Link.the-variants.{Nothing, Route, Inner}
 

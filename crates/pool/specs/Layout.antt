@@ -1,35 +1,38 @@
--- The lent words, as docs/POOL.md draws them. c is the capacity, i a route place, j an inner place, k a change.
-use Prim.Native.Nat.{ℕ, zero, suc, _+_, _*_}
+-- The lent words, as docs/POOL.md draws them, of any kind of table. c is the capacity, i a route place, j an inner place, k a change.
+use Prim.Native.Nat.{ℕ, _+_}
 use mathlib.Core.List.{List}
-use lib.ListN.{getD, length}
+use lib.ListN.{getD}
 use Rattle.model.specs.Prefix.{Prefix}
-use Rattle.model.specs.Routes.{Route}
-use Rattle.model.specs.Ipv4.{Hop, direct, via, reject, ipv4}
 use Rattle.model.specs.State.{Rules}
+use Rattle.pool.specs.Write.{Write}
 
 -- What stands at an index.
 abbrev pub word : List ℕ → ℕ → ℕ
 word ws i = getD ws i 0
 
--- "A size that the team fixes by a formula": 8 words of head, 8 a route place, 4 an inner place, 16 for each of 64 changes.
-abbrev pub size : ℕ → ℕ
-size c = 1032 + 12 * c
-
--- Document 01's table, in pools of this size.
-abbrev pub rules : Rules Hop
-rules = ipv4 size
-
--- Where route place i begins.
-abbrev pub seat : ℕ → ℕ
-seat i = 8 + 8 * i
-
--- Where inner place j begins, behind the route places.
-abbrev pub joint : ℕ → ℕ → ℕ
-joint c j = 8 + 8 * c + 4 * j
-
--- Where change k begins, behind the inner places.
-abbrev pub slot : ℕ → ℕ → ℕ
-slot c k = 8 + 12 * c + 16 * k
+-- How the words of one kind of table are laid out. P is what a route holds besides its prefix: its payload.
+pub record Layout (P : Type 0) : Type 1 where
+  -- the table's rules, with "a size that the team fixes by a formula"
+  pub rules : Rules P
+  -- where route place i begins; inner place j; change k
+  pub seat : ℕ → ℕ
+  pub joint : ℕ → ℕ → ℕ
+  pub slot : ℕ → ℕ → ℕ
+  -- a route place begins with its payload; so far behind come its prefix, and the link to the next route of its address
+  pub prefixOffset : ℕ
+  pub nextOffset : ℕ
+  -- a change begins with its action and its prefix; so far behind come the payload before and the payload after
+  pub oldOffset : ℕ
+  pub newOffset : ℕ
+  -- an address takes so many words: how they are read, and how they are written
+  pub addressWords : ℕ
+  pub addressAt : List ℕ → ℕ → ℕ
+  pub putAddress : ℕ → ℕ → List Write
+  -- a payload, read and written; its first word is 0 in a free place and nowhere else
+  pub payloadAt : List ℕ → ℕ → P
+  pub putPayload : ℕ → P → List Write
+  -- the words here, of which the first is not 0, are a payload's
+  pub Known : List ℕ → ℕ → Type 0
 
 -- The head begins with the capacity.
 abbrev pub capacityIn : List ℕ → ℕ
@@ -51,45 +54,55 @@ trialIn ws = word ws 3
 abbrev pub standingIn : List ℕ → ℕ
 standingIn ws = word ws 4
 
--- A hop is three words: its kind (1 direct, 2 via, 3 reject), its port and its gateway. A kind does not look at the words that it does not use.
-abbrev pub hopFrom : ℕ → ℕ → ℕ → Hop
-hopFrom zero p g = reject
-hopFrom (suc zero) p g = direct p
-hopFrom (suc (suc zero)) p g = via p g
-hopFrom (suc (suc (suc k))) p g = reject
+module _ {P : Type 0} (L : Layout P) where
+  -- The words that a capacity needs.
+  abbrev pub size : ℕ → ℕ
+  size c = L .rules .words c
 
--- The hop whose three words begin here.
-abbrev pub hopAt : List ℕ → ℕ → Hop
-hopAt ws at = hopFrom (word ws at) (word ws (at + 1)) (word ws (at + 2))
+  -- A prefix is its address, and behind it its length.
+  abbrev pub prefixAt : List ℕ → ℕ → Prefix
+  prefixAt ws at = record { address = L .addressAt ws at; length = word ws (at + L .addressWords) }
 
--- A prefix is two words: its address and its length.
-abbrev pub prefixAt : List ℕ → ℕ → Prefix
-prefixAt ws at = record { address = word ws at; length = word ws (at + 1) }
+  -- A route place: its payload, whose first word is 0 while the place is free; its prefix; the link to the next route of its address.
+  abbrev pub kindAt : List ℕ → ℕ → ℕ
+  kindAt ws i = word ws (L .seat i)
 
--- A route place: a hop, whose kind is 0 while the place is free; a prefix; the link to the next route of its address.
-abbrev pub kindAt : List ℕ → ℕ → ℕ
-kindAt ws i = word ws (seat i)
+  -- The prefix in place i.
+  abbrev pub heldPrefix : List ℕ → ℕ → Prefix
+  heldPrefix ws i = prefixAt ws (L .seat i + L .prefixOffset)
 
--- The route in place i.
-abbrev pub routeAt : List ℕ → ℕ → Route Hop
-routeAt ws i = record { prefix = prefixAt ws (seat i + 3); payload = hopAt ws (seat i) }
+  -- The payload there.
+  abbrev pub heldPayload : List ℕ → ℕ → P
+  heldPayload ws i = L .payloadAt ws (L .seat i)
 
--- The link to the next route of its address.
-abbrev pub nextAt : List ℕ → ℕ → ℕ
-nextAt ws i = word ws (seat i + 5)
+  -- The link to the next route of its address.
+  abbrev pub nextAt : List ℕ → ℕ → ℕ
+  nextAt ws i = word ws (L .seat i + L .nextOffset)
 
--- An inner place: 0 while it is free, else its bit + 1; the links to its left and right side.
-abbrev pub markAt : ℕ → List ℕ → ℕ → ℕ
-markAt c ws j = word ws (joint c j)
+  -- An inner place: 0 while it is free, else its bit + 1; the links to its left and right side.
+  abbrev pub markAt : ℕ → List ℕ → ℕ → ℕ
+  markAt c ws j = word ws (L .joint c j)
 
--- The link to its left side.
-abbrev pub leftAt : ℕ → List ℕ → ℕ → ℕ
-leftAt c ws j = word ws (joint c j + 1)
+  -- The link to its left side.
+  abbrev pub leftAt : ℕ → List ℕ → ℕ → ℕ
+  leftAt c ws j = word ws (L .joint c j + 1)
 
--- The link to its right side.
-abbrev pub rightAt : ℕ → List ℕ → ℕ → ℕ
-rightAt c ws j = word ws (joint c j + 2)
+  -- The link to its right side.
+  abbrev pub rightAt : ℕ → List ℕ → ℕ → ℕ
+  rightAt c ws j = word ws (L .joint c j + 2)
 
--- A recorded change: its action (1 add, 2 delete, 3 change), its prefix, the hop before and the hop after.
-abbrev pub actionAt : ℕ → List ℕ → ℕ → ℕ
-actionAt c ws k = word ws (slot c k)
+  -- A recorded change: its action (1 add, 2 delete, 3 change).
+  abbrev pub actionAt : ℕ → List ℕ → ℕ → ℕ
+  actionAt c ws k = word ws (L .slot c k)
+
+  -- Its prefix.
+  abbrev pub changedAt : ℕ → List ℕ → ℕ → Prefix
+  changedAt c ws k = prefixAt ws (L .slot c k + 1)
+
+  -- The payload before.
+  abbrev pub oldAt : ℕ → List ℕ → ℕ → P
+  oldAt c ws k = L .payloadAt ws (L .slot c k + L .oldOffset)
+
+  -- The payload after.
+  abbrev pub newAt : ℕ → List ℕ → ℕ → P
+  newAt c ws k = L .payloadAt ws (L .slot c k + L .newOffset)

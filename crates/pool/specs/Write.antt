@@ -1,32 +1,13 @@
--- How the words change where a hop or a prefix is written.
-use Prim.Native.Nat.{ℕ, _+_}
-use mathlib.Core.List.{List}
+-- Writes to the words, in order.
+use Prim.Native.Nat.{ℕ}
+use mathlib.Core.List.{List, [], _∷_}
 use lib.ListN.{set}
-use Rattle.model.specs.Prefix.{Prefix}
-use Rattle.model.specs.Ipv4.{Hop, direct, via, reject}
 
--- The word for a hop's kind.
-abbrev pub kindOf : Hop → ℕ
-kindOf (direct p) = 1
-kindOf (via p g) = 2
-kindOf reject = 3
+-- An index and what is written there.
+abbrev pub Write : Type 0
+Write = ℕ × ℕ
 
--- The word for its port, 0 where it has none.
-abbrev pub portOf : Hop → ℕ
-portOf (direct p) = p
-portOf (via p g) = p
-portOf reject = 0
-
--- The word for its gateway, 0 where it has none.
-abbrev pub gatewayOf : Hop → ℕ
-gatewayOf (direct p) = 0
-gatewayOf (via p g) = g
-gatewayOf reject = 0
-
--- The words with a hop written here.
-abbrev pub withHop : List ℕ → ℕ → Hop → List ℕ
-withHop ws at h = set (set (set ws at (kindOf h)) (at + 1) (portOf h)) (at + 2) (gatewayOf h)
-
--- The words with a prefix written here.
-abbrev pub withPrefix : List ℕ → ℕ → Prefix → List ℕ
-withPrefix ws at p = set (set ws at (p .address)) (at + 1) (p .length)
+-- The words after a row of writes, the first written first.
+abbrev pub writes : List Write → List ℕ → List ℕ
+writes [] ws = ws
+writes (x ∷ xs) ws = writes xs (set ws (x .0) (x .1))

@@ -3,6 +3,8 @@ ghost use Prim.Native.Nat.{_+_, _≤_, _<_};
 ghost use lib.ListN.{length};
 ghost use Rattle.route.specs.Means.{prefixOf, hopOf, routeOf};
 ghost use Rattle.pool.specs.Layout as layout;
+ghost use Rattle.pool.specs.Ipv4.{ipv4, hopAt};
+ghost use Rattle.pool.specs.Fit.{routeAt};
 use super::layout;
 use super::link::Place;
 use route::Hop;
@@ -21,7 +23,7 @@ pub fn wide(x: u32) -> usize
 // The hop of three words. What a kind does not use is not looked at, and a kind that is none is read as reject.
 pub fn hop_at(pool: &[u32], at: usize) -> Hop
     requires { ⌜ at + 2 < length (now pool) ⌝ }
-    ensures { λ r. ⌜ hopOf r ≡ layout.hopAt (now (pool .entry)) at ⌝ }
+    ensures { λ r. ⌜ hopOf r ≡ hopAt (now (pool .entry)) at ⌝ }
 {
     let kind = pool[at];
     if kind == 1 {
@@ -36,7 +38,7 @@ pub fn hop_at(pool: &[u32], at: usize) -> Hop
 // The prefix of two words.
 pub fn prefix_at(pool: &[u32], at: usize) -> Prefix
     requires { ⌜ at + 1 < length (now pool) ⌝ }
-    ensures { λ r. ⌜ prefixOf r ≡ layout.prefixAt (now (pool .entry)) at ⌝ }
+    ensures { λ r. ⌜ prefixOf r ≡ layout.prefixAt ipv4 (now (pool .entry)) at ⌝ }
 {
     Prefix {
         address: pool[at],
@@ -46,9 +48,9 @@ pub fn prefix_at(pool: &[u32], at: usize) -> Prefix
 
 // The route in a place.
 pub fn route_at(pool: &[u32], place: Place) -> Route
-    requires { ⌜ layout.seat (place .0) + 4 < length (now pool) ⌝ }
-    requires { ⌜ place .0 ≤ 4294967295 ⌝ }
-    ensures { λ r. ⌜ routeOf r ≡ layout.routeAt (now (pool .entry)) (place .0) ⌝ }
+    requires { ⌜ ipv4 .seat (place .0) + ipv4 .prefixOffset + ipv4 .addressWords < length (now pool) ⌝ }
+    requires { ⌜ place .0 ≤ 65535 ⌝ }
+    ensures { λ r. ⌜ routeOf r ≡ routeAt ipv4 (now (pool .entry)) (place .0) ⌝ }
 {
     let at = layout::seat(place);
     Route {
@@ -59,9 +61,9 @@ pub fn route_at(pool: &[u32], place: Place) -> Route
 
 // The kind of a route place: 0 while it is free.
 pub fn kind_at(pool: &[u32], place: Place) -> u32
-    requires { ⌜ layout.seat (place .0) < length (now pool) ⌝ }
-    requires { ⌜ place .0 ≤ 4294967295 ⌝ }
-    ensures { λ r. ⌜ r ≡ layout.kindAt (now (pool .entry)) (place .0) ⌝ }
+    requires { ⌜ ipv4 .seat (place .0) < length (now pool) ⌝ }
+    requires { ⌜ place .0 ≤ 65535 ⌝ }
+    ensures { λ r. ⌜ r ≡ layout.kindAt ipv4 (now (pool .entry)) (place .0) ⌝ }
 {
     let at = layout::seat(place);
     pool[at]
@@ -69,9 +71,9 @@ pub fn kind_at(pool: &[u32], place: Place) -> u32
 
 // The link to the next route of the same address.
 pub fn next_at(pool: &[u32], place: Place) -> u32
-    requires { ⌜ layout.seat (place .0) + 5 < length (now pool) ⌝ }
-    requires { ⌜ place .0 ≤ 4294967295 ⌝ }
-    ensures { λ r. ⌜ r ≡ layout.nextAt (now (pool .entry)) (place .0) ⌝ }
+    requires { ⌜ ipv4 .seat (place .0) + ipv4 .nextOffset < length (now pool) ⌝ }
+    requires { ⌜ place .0 ≤ 65535 ⌝ }
+    ensures { λ r. ⌜ r ≡ layout.nextAt ipv4 (now (pool .entry)) (place .0) ⌝ }
 {
     let at = layout::seat(place);
     pool[at + 5]
@@ -79,9 +81,9 @@ pub fn next_at(pool: &[u32], place: Place) -> u32
 
 // The mark of an inner place: 0 while it is free, else its bit + 1.
 pub fn mark_at(pool: &[u32], capacity: usize, place: Place) -> u32
-    requires { ⌜ layout.joint capacity (place .0) < length (now pool) ⌝ }
-    requires { ⌜ (capacity ≤ 4294967295) × (place .0 ≤ 4294967295) ⌝ }
-    ensures { λ r. ⌜ r ≡ layout.markAt capacity (now (pool .entry)) (place .0) ⌝ }
+    requires { ⌜ ipv4 .joint capacity (place .0) < length (now pool) ⌝ }
+    requires { ⌜ (capacity ≤ 65535) × (place .0 ≤ 65535) ⌝ }
+    ensures { λ r. ⌜ r ≡ layout.markAt ipv4 capacity (now (pool .entry)) (place .0) ⌝ }
 {
     let at = layout::joint(capacity, place);
     pool[at]
@@ -89,9 +91,9 @@ pub fn mark_at(pool: &[u32], capacity: usize, place: Place) -> u32
 
 // The link to an inner place's left side.
 pub fn left_at(pool: &[u32], capacity: usize, place: Place) -> u32
-    requires { ⌜ layout.joint capacity (place .0) + 1 < length (now pool) ⌝ }
-    requires { ⌜ (capacity ≤ 4294967295) × (place .0 ≤ 4294967295) ⌝ }
-    ensures { λ r. ⌜ r ≡ layout.leftAt capacity (now (pool .entry)) (place .0) ⌝ }
+    requires { ⌜ ipv4 .joint capacity (place .0) + 1 < length (now pool) ⌝ }
+    requires { ⌜ (capacity ≤ 65535) × (place .0 ≤ 65535) ⌝ }
+    ensures { λ r. ⌜ r ≡ layout.leftAt ipv4 capacity (now (pool .entry)) (place .0) ⌝ }
 {
     let at = layout::joint(capacity, place);
     pool[at + 1]
@@ -99,9 +101,9 @@ pub fn left_at(pool: &[u32], capacity: usize, place: Place) -> u32
 
 // The link to its right side.
 pub fn right_at(pool: &[u32], capacity: usize, place: Place) -> u32
-    requires { ⌜ layout.joint capacity (place .0) + 2 < length (now pool) ⌝ }
-    requires { ⌜ (capacity ≤ 4294967295) × (place .0 ≤ 4294967295) ⌝ }
-    ensures { λ r. ⌜ r ≡ layout.rightAt capacity (now (pool .entry)) (place .0) ⌝ }
+    requires { ⌜ ipv4 .joint capacity (place .0) + 2 < length (now pool) ⌝ }
+    requires { ⌜ (capacity ≤ 65535) × (place .0 ≤ 65535) ⌝ }
+    ensures { λ r. ⌜ r ≡ layout.rightAt ipv4 capacity (now (pool .entry)) (place .0) ⌝ }
 {
     let at = layout::joint(capacity, place);
     pool[at + 2]

@@ -1,4 +1,7 @@
 pub mod Promises
+pub mod Stable
 pub mod Pinned
+pub mod Sounds
+pub mod Caught
 pub mod Runs
 pub mod History

@@ -1,3 +1,5 @@
+pub mod Table
+pub mod Trees
 pub mod Promise
 pub mod Run
 pub mod Demand

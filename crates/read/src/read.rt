@@ -4,10 +4,11 @@ ghost use mathlib.Core.Logic.{_↔_};
 ghost use Prim.Native.Nat.{ℕ};
 ghost use mathlib.Core.List.{List};
 ghost use Rattle.model.specs.Call as call;
-ghost use Rattle.pool.specs.Layout.{size, capacityIn};
-ghost use Rattle.pool.specs.Means.{Sound};
 ghost use Rattle.route.specs.Means.{prefixOf};
 ghost use Rattle.route.specs.Answers.{foundNumber, foundValue, roomNumber, roomValue, measuredNumber, measuredValue};
+ghost use Rattle.pool.specs.Ipv4.{ipv4};
+ghost use Rattle.promise.specs.Trees.{tree};
+ghost use Rattle.promise.specs.Table.{Sound};
 ghost use Rattle.promise.specs.Promise.{Promise, LookupPromise};
 use lent::Own;
 use lent::Verdict;
@@ -21,7 +22,7 @@ use route::Room;
 
 // Whether a pool is sound: yes exactly when it is.
 pub fn sound(pool: &[u32]) -> bool
-    ensures { λ r. ⌜ (r ≡ true) ↔ Sound (now (pool .entry)) ⌝ }
+    ensures { λ r. ⌜ (r ≡ true) ↔ Sound (tree ipv4) (now (pool .entry)) ⌝ }
 {
     match tested(pool) {
         Verdict::Sound(_) => true,
@@ -31,7 +32,7 @@ pub fn sound(pool: &[u32]) -> bool
 
 // The route for a destination. It is the call made per packet, so it does not test the whole pool.
 pub fn lookup(pool: &[u32], destination: u32) -> Found
-    ensures { λ r. ⌜ LookupPromise destination (now (pool .entry)) (foundNumber r) (foundValue r) ⌝ }
+    ensures { λ r. ⌜ LookupPromise (tree ipv4) destination (now (pool .entry)) (foundNumber r) (foundValue r) ⌝ }
 {
     match own_words(pool) {
         Own::Capacity(capacity) => {
@@ -44,7 +45,7 @@ pub fn lookup(pool: &[u32], destination: u32) -> Found
 
 // The first route of the walk.
 pub fn first(pool: &[u32]) -> Found
-    ensures { λ r. ⌜ Promise call.first (now (pool .entry)) (now (pool .entry)) (foundNumber r) (foundValue r) ⌝ }
+    ensures { λ r. ⌜ Promise (tree ipv4) call.first (now (pool .entry)) (now (pool .entry)) (foundNumber r) (foundValue r) ⌝ }
 {
     let Verdict::Sound(capacity) = tested(pool) else {
         return Found::Refused(Refusal::NotSound);
@@ -55,7 +56,7 @@ pub fn first(pool: &[u32]) -> Found
 
 // The next route after a prefix, held or not.
 pub fn next(pool: &[u32], prefix: Prefix) -> Found
-    ensures { λ r. ⌜ Promise (call.after (prefixOf prefix)) (now (pool .entry)) (now (pool .entry)) (foundNumber r) (foundValue r) ⌝ }
+    ensures { λ r. ⌜ Promise (tree ipv4) (call.after (prefixOf prefix)) (now (pool .entry)) (now (pool .entry)) (foundNumber r) (foundValue r) ⌝ }
 {
     let Verdict::Sound(capacity) = tested(pool) else {
         return Found::Refused(Refusal::NotSound);
@@ -69,7 +70,7 @@ pub fn next(pool: &[u32], prefix: Prefix) -> Found
 
 // How many routes the table still takes.
 pub fn room_left(pool: &[u32]) -> Room
-    ensures { λ r. ⌜ Promise call.room (now (pool .entry)) (now (pool .entry)) (roomNumber r) (roomValue r) ⌝ }
+    ensures { λ r. ⌜ Promise (tree ipv4) call.room (now (pool .entry)) (now (pool .entry)) (roomNumber r) (roomValue r) ⌝ }
 {
     let Verdict::Sound(_) = tested(pool) else {
         return Room::Refused(Refusal::NotSound);
@@ -79,7 +80,7 @@ pub fn room_left(pool: &[u32]) -> Room
 
 // The length of a mask. It is asked of no pool: whatever words there are, it leaves them.
 pub fn mask_length(mask: u32) -> Measured
-    ensures { λ r. ⌜ ((ws : List ℕ) → Promise (call.mask mask) ws ws (measuredNumber r) (measuredValue r)) ⌝ }
+    ensures { λ r. ⌜ ((ws : List ℕ) → Promise (tree ipv4) (call.mask mask) ws ws (measuredNumber r) (measuredValue r)) ⌝ }
 {
     route::measure(mask)
 }

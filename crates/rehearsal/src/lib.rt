@@ -3,11 +3,13 @@ ghost use Prim.Native.Nat.{_≤_};
 ghost use mathlib.Core.Path.{_≡_};
 ghost use mathlib.Core.Bool.{true};
 ghost use lib.ListN.{length};
-ghost use Rattle.model.specs.Ipv4 as ipv4;
+ghost use Rattle.model.specs.Ipv4 as model;
 ghost use Rattle.model.specs.State.{State};
 ghost use Rattle.pool.specs.Layout.{size};
+ghost use Rattle.pool.specs.Ipv4.{ipv4};
 ghost use Rattle.pool.specs.Means.{Means};
 ghost use Rattle.promise.specs.Run.{Ran};
+ghost use Rattle.promise.specs.Trees.{tree};
 ghost use Rattle.rehearsal.specs.Transcript.{transcript, left};
 use route::Done;
 use route::Hop;
@@ -60,9 +62,9 @@ const J5: Route = Route {
 // Two routes are added and one prefix again; a trial is changed, stepped back and kept; another is backed out of. It says
 // whether the buffer was long enough to begin.
 pub fn rehearse(pool: &mut [u32]) -> bool
-    ensures { λ r. ⌜ (size 3 ≤ length (now (pool .entry)) → r ≡ true) ⌝ }
-    ensures { λ r. ⌜ (r ≡ true → Ran (transcript (length (now (pool .entry)))) (now (pool .exit))) ⌝ }
-    ensures { λ r. ⌜ (r ≡ true → (s : State ipv4.Hop) → Means (now (pool .exit)) s → s .routes ≡ left) ⌝ }
+    ensures { λ r. ⌜ (size ipv4 3 ≤ length (now (pool .entry)) → r ≡ true) ⌝ }
+    ensures { λ r. ⌜ (r ≡ true → Ran (tree ipv4) (transcript (length (now (pool .entry)))) (now (pool .exit))) ⌝ }
+    ensures { λ r. ⌜ (r ≡ true → (s : State model.Hop) → Means ipv4 (now (pool .exit)) s → s .routes ≡ left) ⌝ }
 {
     let Done::Yes = table::fresh(pool, 3) else {
         return false;

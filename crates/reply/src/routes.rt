@@ -3,8 +3,9 @@ ghost use Rattle.model.specs.Ipv4 as ipv4;
 ghost use Rattle.model.specs.State.{Meaning};
 ghost use Rattle.model.specs.Call as call;
 ghost use Rattle.model.specs.Call.{number};
-ghost use Rattle.pool.specs.Layout.{rules};
+ghost use Rattle.pool.specs.Ipv4.{ipv4 as words4};
 ghost use Rattle.promise.specs.Promise.{Meant};
+ghost use Rattle.promise.specs.Trees.{tree};
 use super::text::number;
 use super::text::number_line;
 use super::text::route_line;
@@ -30,7 +31,7 @@ fn walk(words: &Words) {
 // Document 01's listing, or the number of the refusal, which is answered too. A sound pool has its capacity and its count of
 // routes in its first two words.
 pub fn list(words: &Words) -> u32
-    ensures { λ r. ⌜ ((m : Meaning ipv4.Hop) → Meant (now (words .entry)) m → r ≡ number rules call.room m) ⌝ }
+    ensures { λ r. ⌜ ((m : Meaning ipv4.Hop) → Meant (tree words4) (now (words .entry)) m → r ≡ number (words4 .rules) call.room m) ⌝ }
 {
     let answer = table::room_left(words);
     let answered = answer.number();

@@ -78,7 +78,11 @@ fn sound(words: &Words) {
 
 // The words that a capacity needs, or 0 for a capacity that fresh refuses.
 fn needed(capacity: u32) {
-    if capacity == 0 || pool::LIMIT < capacity {
+    if capacity == 0 {
+        number_line(0);
+        return;
+    }
+    if pool::LIMIT < capacity {
         number_line(0);
         return;
     }

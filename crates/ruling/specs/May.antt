@@ -4,21 +4,20 @@ use mathlib.Core.Path.{_≡_}
 use mathlib.Core.Bool.{Bool}
 use mathlib.Core.List.{List}
 use mathlib.Core.Option.{some}
-use Rattle.model.specs.Ipv4.{Hop}
 use Rattle.model.specs.State.{State, Meaning}
 use Rattle.model.specs.Call.{Call, number}
-use Rattle.pool.specs.Layout.{rules}
-use Rattle.pool.specs.Means.{Means}
 use Rattle.route.specs.Answers.{refusalNumber}
 use Rattle.promise.specs.Promise.{Meant}
+use Rattle.promise.specs.Table.{Table}
 use Rattle.ruling.specs.declared.may.May.{May}
 use Rattle.ruling.specs.declared.may.May.the-variants.{Go, No}
 
--- A test of a sound pool tells what it is said to tell of the state.
-abbrev pub Tells : List ℕ → (State Hop → Bool) → Bool → Type 0
-Tells ws f r = (s : State Hop) → Means ws s → r ≡ f s
+module _ {P : Type 0} (T : Table P) where
+  -- A test of a sound pool tells what it is said to tell of the state.
+  abbrev pub Tells : List ℕ → (State P → Bool) → Bool → Type 0
+  Tells ws f r = (s : State P) → T .Means ws s → r ≡ f s
 
--- The call goes on where its number is 0, and is refused with its number where that is another.
-abbrev pub MayRight : Call Hop → List ℕ → May → Type 0
-MayRight call ws (Go c) = (s : State Hop) × Means ws s × (s .capacity ≡ c) × (number rules call (some s) ≡ 0)
-MayRight call ws (No x) = ((m : Meaning Hop) → Meant ws m → number rules call m ≡ refusalNumber x) × (refusalNumber x ≡ 0 → ⊥)
+  -- The call goes on where its number is 0, and is refused with its number where that is another.
+  abbrev pub MayRight : Call P → List ℕ → May → Type 0
+  MayRight call ws (Go c) = (s : State P) × T .Means ws s × (s .capacity ≡ c) × (number (T .rules) call (some s) ≡ 0)
+  MayRight call ws (No x) = ((m : Meaning P) → Meant T ws m → number (T .rules) call m ≡ refusalNumber x) × (refusalNumber x ≡ 0 → ⊥)

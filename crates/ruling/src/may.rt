@@ -4,8 +4,9 @@ ghost use lib.Dec.{eqb};
 ghost use Rattle.model.specs.Routes.{holds};
 ghost use Rattle.model.specs.State as state;
 ghost use Rattle.model.specs.Call as call;
-ghost use Rattle.pool.specs.Layout.{rules};
 ghost use Rattle.route.specs.Means.{prefixOf, routeOf};
+ghost use Rattle.pool.specs.Ipv4.{ipv4};
+ghost use Rattle.promise.specs.Trees.{tree};
 ghost use Rattle.lent.specs.Own.{TestedRight};
 ghost use Rattle.lent.specs.declared.Verdict.the-variants as verdict;
 ghost use Rattle.ruling.specs.May.{MayRight, Tells};
@@ -23,8 +24,8 @@ pub enum May {
 
 // Whether a prefix is held.
 fn holds(pool: &[u32], capacity: usize, prefix: Prefix) -> bool
-    requires { ⌜ TestedRight (now pool) (verdict.Sound capacity) ⌝ }
-    ensures { λ r. ⌜ Tells (now (pool .entry)) (λ s. holds (prefixOf prefix) (s .routes)) r ⌝ }
+    requires { ⌜ TestedRight (tree ipv4) (now pool) (verdict.Sound capacity) ⌝ }
+    ensures { λ r. ⌜ Tells (tree ipv4) (now (pool .entry)) (λ s. holds (prefixOf prefix) (s .routes)) r ⌝ }
 {
     let own = pool::size_of(capacity);
     search::find(&pool[..own], capacity, prefix).is_at()
@@ -33,7 +34,7 @@ fn holds(pool: &[u32], capacity: usize, prefix: Prefix) -> bool
 // Whether a trial is open.
 fn trial_open(pool: &[u32]) -> bool
     requires { ⌜ 4 < length (now pool) ⌝ }
-    ensures { λ r. ⌜ Tells (now (pool .entry)) (λ s. state.isOpen (s .trial)) r ⌝ }
+    ensures { λ r. ⌜ Tells (tree ipv4) (now (pool .entry)) (λ s. state.isOpen (s .trial)) r ⌝ }
 {
     pool[3] == 1
 }
@@ -41,7 +42,7 @@ fn trial_open(pool: &[u32]) -> bool
 // Whether no further change can be recorded in the trial that is open.
 fn trial_full(pool: &[u32]) -> bool
     requires { ⌜ 4 < length (now pool) ⌝ }
-    ensures { λ r. ⌜ Tells (now (pool .entry)) (call.trialFull rules) r ⌝ }
+    ensures { λ r. ⌜ Tells (tree ipv4) (now (pool .entry)) (call.trialFull (ipv4 .rules)) r ⌝ }
 {
     pool::wide(pool[4]) == pool::CHANGES
 }
@@ -49,7 +50,7 @@ fn trial_full(pool: &[u32]) -> bool
 // Whether no change stands.
 fn none_stands(pool: &[u32]) -> bool
     requires { ⌜ 4 < length (now pool) ⌝ }
-    ensures { λ r. ⌜ Tells (now (pool .entry)) (λ s. eqb (length (state.changes (s .trial))) 0) r ⌝ }
+    ensures { λ r. ⌜ Tells (tree ipv4) (now (pool .entry)) (λ s. eqb (length (state.changes (s .trial))) 0) r ⌝ }
 {
     pool[4] == 0
 }
@@ -57,14 +58,14 @@ fn none_stands(pool: &[u32]) -> bool
 // Whether the table holds as many routes as it may.
 fn table_full(pool: &[u32]) -> bool
     requires { ⌜ 4 < length (now pool) ⌝ }
-    ensures { λ r. ⌜ Tells (now (pool .entry)) state.full r ⌝ }
+    ensures { λ r. ⌜ Tells (tree ipv4) (now (pool .entry)) state.full r ⌝ }
 {
     pool[1] == pool[0]
 }
 
 // 9, 3, 4, 5, 8, 7.
 pub fn may_add(pool: &[u32], route: Route) -> May
-    ensures { λ r. ⌜ MayRight (call.add (routeOf route)) (now (pool .entry)) r ⌝ }
+    ensures { λ r. ⌜ MayRight (tree ipv4) (call.add (routeOf route)) (now (pool .entry)) r ⌝ }
 {
     let Verdict::Sound(capacity) = tested(pool) else {
         return May::No(Refusal::NotSound);
@@ -94,7 +95,7 @@ pub fn may_add(pool: &[u32], route: Route) -> May
 
 // 9, 3, 6, 8.
 pub fn may_delete(pool: &[u32], prefix: Prefix) -> May
-    ensures { λ r. ⌜ MayRight (call.delete (prefixOf prefix)) (now (pool .entry)) r ⌝ }
+    ensures { λ r. ⌜ MayRight (tree ipv4) (call.delete (prefixOf prefix)) (now (pool .entry)) r ⌝ }
 {
     let Verdict::Sound(capacity) = tested(pool) else {
         return May::No(Refusal::NotSound);
@@ -113,7 +114,7 @@ pub fn may_delete(pool: &[u32], prefix: Prefix) -> May
 
 // 9, 3, 4, 6, 8.
 pub fn may_change(pool: &[u32], route: Route) -> May
-    ensures { λ r. ⌜ MayRight (call.change (routeOf route)) (now (pool .entry)) r ⌝ }
+    ensures { λ r. ⌜ MayRight (tree ipv4) (call.change (routeOf route)) (now (pool .entry)) r ⌝ }
 {
     let Verdict::Sound(capacity) = tested(pool) else {
         return May::No(Refusal::NotSound);
@@ -137,7 +138,7 @@ pub fn may_change(pool: &[u32], route: Route) -> May
 
 // 9, 10.
 pub fn may_open(pool: &[u32]) -> May
-    ensures { λ r. ⌜ MayRight call.openTrial (now (pool .entry)) r ⌝ }
+    ensures { λ r. ⌜ MayRight (tree ipv4) call.openTrial (now (pool .entry)) r ⌝ }
 {
     let Verdict::Sound(capacity) = tested(pool) else {
         return May::No(Refusal::NotSound);
@@ -150,8 +151,8 @@ pub fn may_open(pool: &[u32]) -> May
 
 // 9, 11: to keep a trial and to back out of it.
 pub fn may_end(pool: &[u32]) -> May
-    ensures { λ r. ⌜ MayRight call.keep (now (pool .entry)) r ⌝ }
-    ensures { λ r. ⌜ MayRight call.backOut (now (pool .entry)) r ⌝ }
+    ensures { λ r. ⌜ MayRight (tree ipv4) call.keep (now (pool .entry)) r ⌝ }
+    ensures { λ r. ⌜ MayRight (tree ipv4) call.backOut (now (pool .entry)) r ⌝ }
 {
     let Verdict::Sound(capacity) = tested(pool) else {
         return May::No(Refusal::NotSound);
@@ -164,7 +165,7 @@ pub fn may_end(pool: &[u32]) -> May
 
 // 9, 11, 12.
 pub fn may_step_back(pool: &[u32]) -> May
-    ensures { λ r. ⌜ MayRight call.stepBack (now (pool .entry)) r ⌝ }
+    ensures { λ r. ⌜ MayRight (tree ipv4) call.stepBack (now (pool .entry)) r ⌝ }
 {
     let Verdict::Sound(capacity) = tested(pool) else {
         return May::No(Refusal::NotSound);

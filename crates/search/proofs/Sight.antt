@@ -8,7 +8,7 @@ use Rattle.bits.proofs.Cases.{eq-or-ne}
 use Rattle.patricia.specs.Good.{Good}
 use Rattle.patricia.specs.Tree.{leaf, node}
 use Rattle.patricia.specs.Way.{toward}
-use Rattle.pool.specs.Layout.{markAt}
+use Rattle.pool.specs.Layout.{Layout, markAt}
 use Rattle.pool.specs.Link.{linkFrom, toRoute, toInner}
 use Rattle.pool.specs.Holds.{Seated, bare, Holds}
 use Rattle.pool.specs.declared.link.Link.{Link}
@@ -37,27 +37,6 @@ reads w = ⊎-elim (λ e. subst (Says w) (sym (link-nothing w e)) e) (λ n. ⊎-
 pub read-as : (w : ℕ) (x y : Link) → x ≡ linkFrom w → x ≡ y → Says w y
 read-as w x y e f = subst (Says w) (sym e ∙ f) (reads w)
 
--- ---- trees
-
-module _ (c : ℕ) (ws : List ℕ) (link : ℕ) where
-  -- where the link is a route's, a leaf stands
-  pub route-inside : (i : ℕ) (t : Seated) → Holds c ws link t → link ≡ toRoute i → i < c
-  route-inside i (leaf a []) h e = absurd h
-  route-inside i (leaf a (x ∷ xs)) h e = let u : link ≡ toRoute (x .payload .place) = h .0 in let v = h .1 .inPool in omega arith
-  route-inside i (node j b l r) h e = let u : link ≡ toInner j = h .0 in absurd (omega arith)
-
-  -- where it is an inner place's, a node stands, whose bit is in range
-  pub inner-inside : (lowest i : ℕ) (t : Seated) → Holds c ws link t → Good 32 (bare t) → Starts lowest t → link ≡ toInner i
-      → (i < c) × (lowest < markAt c ws i) × (markAt c ws i ≤ 32)
-  inner-inside lowest i (leaf a []) h g s e = absurd h
-  inner-inside lowest i (leaf a (x ∷ xs)) h g s e = let u : link ≡ toRoute (x .payload .place) = h .0 in absurd (omega arith)
-  inner-inside lowest i (node j b l r) h g s e =
-      let u : link ≡ toInner j = h .0 in
-      let p : j ≡ i = omega arith in
-      let m : markAt c ws i ≡ suc b = ap (markAt c ws) (sym p) ∙ h .2 in
-      let k : b < 32 = g .0 .within in
-      (subst (λ (n : ℕ). n < c) p (h .1), omega arith, omega arith)
-
 -- ---- the side that a bit takes
 
 pub take-left : (x l r y : ℕ) → x ≡ 0 → y ≡ l → y ≡ toward x l r
@@ -65,3 +44,24 @@ take-left x l r y z e = rw z e
 
 pub take-right : (x l r y : ℕ) → x < 2 → (x ≡ 0 → ⊥) → y ≡ r → y ≡ toward x l r
 take-right x l r y h z e = let o : x ≡ 1 = omega arith in rw o e
+
+-- ---- trees
+
+module _ {P : Type 0} (L : Layout P) (c : ℕ) (ws : List ℕ) (link : ℕ) where
+  -- where the link is a route's, a leaf stands
+  pub route-inside : (i : ℕ) (t : Seated P) → Holds L c ws link t → link ≡ toRoute i → i < c
+  route-inside i (leaf a []) h e = absurd h
+  route-inside i (leaf a (x ∷ xs)) h e = let u : link ≡ toRoute (x .payload .place) = h .0 in let v = h .1 .inPool in omega arith
+  route-inside i (node j b l r) h e = let u : link ≡ toInner j = h .0 in absurd (omega arith)
+
+  -- where it is an inner place's, a node stands, whose bit is in range
+  pub inner-inside : (lowest i : ℕ) (t : Seated P) → Holds L c ws link t → Good (L .rules .width) (bare t) → Starts lowest t → link ≡ toInner i
+      → (i < c) × (lowest < markAt L c ws i) × (markAt L c ws i ≤ L .rules .width)
+  inner-inside lowest i (leaf a []) h g s e = absurd h
+  inner-inside lowest i (leaf a (x ∷ xs)) h g s e = let u : link ≡ toRoute (x .payload .place) = h .0 in absurd (omega arith)
+  inner-inside lowest i (node j b l r) h g s e =
+      let u : link ≡ toInner j = h .0 in
+      let p : j ≡ i = omega arith in
+      let m : markAt L c ws i ≡ suc b = ap (markAt L c ws) (sym p) ∙ h .2 in
+      let k : b < L .rules .width = g .0 .within in
+      (subst (λ (n : ℕ). n < c) p (h .1), omega arith, omega arith)

@@ -3,6 +3,7 @@ ghost use Prim.Native.Nat.{_<_};
 ghost use Rattle.bits.specs.Address.{bit};
 ghost use Rattle.patricia.specs.Way.{toward};
 ghost use Rattle.pool.specs.Layout.{leftAt, rightAt};
+ghost use Rattle.pool.specs.Ipv4.{ipv4};
 ghost use Rattle.pool.specs.Fit.{Fit};
 ghost use Rattle.search.specs.Seen.{SeenRight};
 ghost use Rattle.search.specs.Down.{Ways};
@@ -18,8 +19,8 @@ pub enum Seen {
 
 // What stands at a link, where no bit below the lowest may be tested.
 pub fn see(pool: &[u32], capacity: usize, link: u32, lowest: u32) -> Seen
-    requires { ⌜ Fit capacity (now pool) ⌝ }
-    ensures { λ r. ⌜ SeenRight capacity (now (pool .entry)) link lowest r ⌝ }
+    requires { ⌜ Fit ipv4 capacity (now pool) ⌝ }
+    ensures { λ r. ⌜ SeenRight ipv4 capacity (now (pool .entry)) link lowest r ⌝ }
 {
     match pool::link_from(link) {
         Link::Nothing => Seen::Damaged,
@@ -48,9 +49,9 @@ pub fn see(pool: &[u32], capacity: usize, link: u32, lowest: u32) -> Seen
 
 // The link to the side of an inner place that the destination's bit takes.
 pub fn side_at(pool: &[u32], capacity: usize, place: Place, index: u32, destination: u32) -> u32
-    requires { ⌜ Fit capacity (now pool) ⌝ }
+    requires { ⌜ Fit ipv4 capacity (now pool) ⌝ }
     requires { ⌜ (place .0 < capacity) × (index < 32) ⌝ }
-    ensures { λ r. ⌜ r ≡ toward (bit 32 index destination) (leftAt capacity (now (pool .entry)) (place .0)) (rightAt capacity (now (pool .entry)) (place .0)) ⌝ }
+    ensures { λ r. ⌜ r ≡ toward (bit 32 index destination) (leftAt ipv4 capacity (now (pool .entry)) (place .0)) (rightAt ipv4 capacity (now (pool .entry)) (place .0)) ⌝ }
 {
     if bits::bit_of(destination, index) == 0 {
         pool::left_at(pool, capacity, place)
@@ -75,8 +76,8 @@ pub struct Way {
 
 // Down from the root by the destination's bits.
 pub fn down(pool: &[u32], capacity: usize, destination: u32) -> Way
-    requires { ⌜ Fit capacity (now pool) ⌝ }
-    ensures { λ r. ⌜ Ways capacity (now (pool .entry)) destination r ⌝ }
+    requires { ⌜ Fit ipv4 capacity (now pool) ⌝ }
+    ensures { λ r. ⌜ Ways ipv4 capacity (now (pool .entry)) destination (r .inner) (r .depth) (r .end) ⌝ }
 {
     let mut inner = [0usize; 32];
     let mut depth: usize = 0;

@@ -1,6 +1,7 @@
 ghost use Prim.Native.Nat.{_<_};
 ghost use mathlib.Core.Path.{_≡_};
 ghost use Rattle.route.specs.Means.{prefixOf};
+ghost use Rattle.pool.specs.Ipv4.{ipv4};
 ghost use Rattle.pool.specs.Fit.{Fit};
 ghost use Rattle.search.specs.Chain.{HungRight};
 ghost use Rattle.search.specs.Find.{isAt, asked, SpotIn, Finds};
@@ -20,9 +21,9 @@ pub enum Hung {
 
 // What a link of a leaf leads to, where the lengths must be below that of the route before.
 pub fn follow(pool: &[u32], capacity: usize, place: Place, length: Length) -> Hung
-    requires { ⌜ Fit capacity (now pool) ⌝ }
+    requires { ⌜ Fit ipv4 capacity (now pool) ⌝ }
     requires { ⌜ place .0 < capacity ⌝ }
-    ensures { λ r. ⌜ HungRight capacity (now (pool .entry)) (place .0) (length .0) r ⌝ }
+    ensures { λ r. ⌜ HungRight ipv4 capacity (now (pool .entry)) (place .0) (length .0) r ⌝ }
 {
     match pool::link_from(pool::next_at(pool, place)) {
         Link::Nothing => Hung::End,
@@ -79,9 +80,9 @@ fn passes(wanted: Wanted, prefix: Prefix, held: Prefix) -> bool
 
 // The spot of the first route of a leaf that passes.
 pub fn along(pool: &[u32], capacity: usize, first: Place, prefix: Prefix, wanted: Wanted) -> Spot
-    requires { ⌜ Fit capacity (now pool) ⌝ }
+    requires { ⌜ Fit ipv4 capacity (now pool) ⌝ }
     requires { ⌜ first .0 < capacity ⌝ }
-    ensures { λ r. ⌜ SpotIn capacity (now (pool .entry)) (first .0) (asked wanted (prefixOf prefix)) r ⌝ }
+    ensures { λ r. ⌜ SpotIn ipv4 capacity (now (pool .entry)) (first .0) (asked wanted (prefixOf prefix)) r ⌝ }
 {
     let mut place = first;
     loop {
@@ -105,8 +106,8 @@ pub fn along(pool: &[u32], capacity: usize, first: Place, prefix: Prefix, wanted
 
 // Exact search: down by the prefix's address, and along the leaf's routes for the length.
 pub fn find(pool: &[u32], capacity: usize, prefix: Prefix) -> Spot
-    requires { ⌜ Fit capacity (now pool) ⌝ }
-    ensures { λ r. ⌜ Finds capacity (now (pool .entry)) (prefixOf prefix) r ⌝ }
+    requires { ⌜ Fit ipv4 capacity (now pool) ⌝ }
+    ensures { λ r. ⌜ Finds ipv4 capacity (now (pool .entry)) (prefixOf prefix) r ⌝ }
 {
     let way = down(pool, capacity, prefix.address);
     let end = way.end;

@@ -1,6 +1,7 @@
 ghost use mathlib.Core.Path.{_≡_};
 ghost use mathlib.Core.Bool.{true};
 ghost use mathlib.Core.Logic.{_↔_};
+ghost use Rattle.pool.specs.Ipv4.{ipv4};
 ghost use Rattle.pool.specs.Fit.{Fit};
 ghost use Rattle.shape.specs.Chain.{RouteFine, HungSays, ChainSays};
 use pool::Link;
@@ -20,8 +21,8 @@ pub enum ChainAudit {
 
 // Whether a place holds a route that the table may hold.
 fn route_is_good(pool: &[u32], capacity: usize, place: Place) -> bool
-    requires { ⌜ Fit capacity (now pool) ⌝ }
-    ensures { λ r. ⌜ (r ≡ true) ↔ RouteFine capacity (now (pool .entry)) (place .0) ⌝ }
+    requires { ⌜ Fit ipv4 capacity (now pool) ⌝ }
+    ensures { λ r. ⌜ (r ≡ true) ↔ RouteFine ipv4 capacity (now (pool .entry)) (place .0) ⌝ }
 {
     let i = place.0;
     if capacity <= i {
@@ -48,8 +49,8 @@ fn route_is_good(pool: &[u32], capacity: usize, place: Place) -> bool
 
 // Whether a link leads to a good route of this address that is shorter than the bound.
 fn step(pool: &[u32], capacity: usize, link: u32, address: u32, bound: u32) -> Hung
-    requires { ⌜ Fit capacity (now pool) ⌝ }
-    ensures { λ r. ⌜ HungSays capacity (now (pool .entry)) link address bound r ⌝ }
+    requires { ⌜ Fit ipv4 capacity (now pool) ⌝ }
+    ensures { λ r. ⌜ HungSays ipv4 capacity (now (pool .entry)) link address bound r ⌝ }
 {
     let Link::Route(place) = pool::link_from(link) else {
         return Hung::Bad;
@@ -74,8 +75,8 @@ fn step(pool: &[u32], capacity: usize, link: u32, address: u32, bound: u32) -> H
 
 // The routes that hang from a place on: one address, each good, longest first. Lengths fall, so there are 33 at most.
 pub fn audit_chain(pool: &[u32], capacity: usize, place: Place) -> ChainAudit
-    requires { ⌜ Fit capacity (now pool) ⌝ }
-    ensures { λ r. ⌜ ChainSays capacity (now (pool .entry)) (place .0) r ⌝ }
+    requires { ⌜ Fit ipv4 capacity (now pool) ⌝ }
+    ensures { λ r. ⌜ ChainSays ipv4 capacity (now (pool .entry)) (place .0) r ⌝ }
 {
     let first = place.0;
     if capacity <= first {

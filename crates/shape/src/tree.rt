@@ -1,4 +1,5 @@
 ghost use Prim.Native.Nat.{ℕ, _≤_};
+ghost use Rattle.pool.specs.Ipv4.{ipv4};
 ghost use Rattle.pool.specs.Link.{toRoute};
 ghost use Rattle.pool.specs.Fit.{Fit};
 ghost use Rattle.shape.specs.Tree.{TreeSays, JoinSays, RootSays};
@@ -29,8 +30,8 @@ pub enum RootAudit {
 
 // A leaf.
 fn audit_leaf(pool: &[u32], capacity: usize, place: Place) -> TreeAudit
-    requires { ⌜ Fit capacity (now pool) ⌝ }
-    ensures { λ r. ⌜ ((low : ℕ) → low ≤ 32 → TreeSays capacity (now (pool .entry)) (toRoute (place .0)) low r) ⌝ }
+    requires { ⌜ Fit ipv4 capacity (now pool) ⌝ }
+    ensures { λ r. ⌜ ((low : ℕ) → TreeSays ipv4 capacity (now (pool .entry)) (toRoute (place .0)) low r) ⌝ }
 {
     match audit_chain(pool, capacity, place) {
         ChainAudit::Fine { address, routes } => TreeAudit::Fine(Span {
@@ -46,9 +47,9 @@ fn audit_leaf(pool: &[u32], capacity: usize, place: Place) -> TreeAudit
 // The two sides of a node. Addresses rise from left to right, so the two ends of a side tell whether all of it has the same first bits.
 fn join(left: Span, right: Span, mark: u32) -> TreeAudit
     requires { ⌜ mark ≤ 32 ⌝ }
-    requires { ⌜ (left .routes ≤ 274877906944) × (right .routes ≤ 274877906944) ⌝ }
-    requires { ⌜ (left .inners ≤ 274877906944) × (right .inners ≤ 274877906944) ⌝ }
-    ensures { λ r. ⌜ JoinSays mark left right r ⌝ }
+    requires { ⌜ (left .routes ≤ 65535) × (right .routes ≤ 65535) ⌝ }
+    requires { ⌜ (left .inners ≤ 65535) × (right .inners ≤ 65535) ⌝ }
+    ensures { λ r. ⌜ JoinSays ipv4 mark left right r ⌝ }
 {
     let zero = bits::first_bits(left.least, mark);
     if zero % 2 != 0 {
@@ -74,9 +75,9 @@ fn join(left: Span, right: Span, mark: u32) -> TreeAudit
 
 // The tree at a link, which tests no bit before low. Bits grow on the way down, so no way is longer than 33 - low.
 fn audit_tree(pool: &[u32], capacity: usize, link: u32, low: u32) -> TreeAudit
-    requires { ⌜ Fit capacity (now pool) ⌝ }
+    requires { ⌜ Fit ipv4 capacity (now pool) ⌝ }
     requires { ⌜ low ≤ 32 ⌝ }
-    ensures { λ r. ⌜ TreeSays capacity (now (pool .entry)) link low r ⌝ }
+    ensures { λ r. ⌜ TreeSays ipv4 capacity (now (pool .entry)) link low r ⌝ }
 {
     match pool::link_from(link) {
         Link::Nothing => TreeAudit::Bad,
@@ -116,8 +117,8 @@ fn audit_tree(pool: &[u32], capacity: usize, link: u32, low: u32) -> TreeAudit
 
 // The whole tree.
 pub fn audit_root(pool: &[u32], capacity: usize) -> RootAudit
-    requires { ⌜ Fit capacity (now pool) ⌝ }
-    ensures { λ r. ⌜ RootSays capacity (now (pool .entry)) r ⌝ }
+    requires { ⌜ Fit ipv4 capacity (now pool) ⌝ }
+    ensures { λ r. ⌜ RootSays ipv4 capacity (now (pool .entry)) r ⌝ }
 {
     let root = pool[2];
     if root == 0 {

@@ -3,8 +3,10 @@ ghost use mathlib.Core.Bool.{true};
 ghost use mathlib.Core.Logic.{_↔_};
 ghost use Prim.Native.Nat.{_+_, _≤_, _<_};
 ghost use lib.ListN.{length};
+ghost use Rattle.model.specs.Prefix.{Prefix};
+ghost use Rattle.pool.specs.Ipv4.{ipv4};
 ghost use Rattle.pool.specs.Fit.{Fit};
-ghost use Rattle.standing.specs.Changes.{HopFine, ChangeFine, ChangesFine, ThereSays, TakenSays, BackSays};
+ghost use Rattle.standing.specs.Changes.{PayloadFine, ChangeFine, ChangesFine, ThereSays, TakenSays, BackSays};
 
 // A change taken back: not possible, or so many routes are left.
 pub enum Taken {
@@ -15,7 +17,7 @@ pub enum Taken {
 // Whether three words are a hop that the table may hold.
 fn hop_is_good(pool: &[u32], at: usize) -> bool
     requires { ⌜ at + 2 < length (now pool) ⌝ }
-    ensures { λ r. ⌜ (r ≡ true) ↔ HopFine (now (pool .entry)) at ⌝ }
+    ensures { λ r. ⌜ ((p : Prefix) → (r ≡ true) ↔ PayloadFine ipv4 (now (pool .entry)) p at) ⌝ }
 {
     let kind = pool[at];
     if kind == 0 {
@@ -29,9 +31,9 @@ fn hop_is_good(pool: &[u32], at: usize) -> bool
 
 // Whether a slot records a change whose prefix and hops the table may hold. A hop that its action does not use is not looked at.
 fn change_is_good(pool: &[u32], capacity: usize, change: usize) -> bool
-    requires { ⌜ Fit capacity (now pool) ⌝ }
+    requires { ⌜ Fit ipv4 capacity (now pool) ⌝ }
     requires { ⌜ change < 64 ⌝ }
-    ensures { λ r. ⌜ (r ≡ true) ↔ ChangeFine capacity (now (pool .entry)) change ⌝ }
+    ensures { λ r. ⌜ (r ≡ true) ↔ ChangeFine ipv4 capacity (now (pool .entry)) change ⌝ }
 {
     let at = pool::slot(capacity, change);
     let action = pool[at];
@@ -59,9 +61,9 @@ fn change_is_good(pool: &[u32], capacity: usize, change: usize) -> bool
 
 // Whether all standing changes are good.
 pub fn changes_are_good(pool: &[u32], capacity: usize, standing: usize) -> bool
-    requires { ⌜ Fit capacity (now pool) ⌝ }
+    requires { ⌜ Fit ipv4 capacity (now pool) ⌝ }
     requires { ⌜ standing ≤ 64 ⌝ }
-    ensures { λ r. ⌜ (r ≡ true) ↔ ChangesFine capacity (now (pool .entry)) standing ⌝ }
+    ensures { λ r. ⌜ (r ≡ true) ↔ ChangesFine ipv4 capacity (now (pool .entry)) standing ⌝ }
 {
     let mut k: usize = 0;
     while k < standing {
@@ -76,9 +78,9 @@ pub fn changes_are_good(pool: &[u32], capacity: usize, standing: usize) -> bool
 // Whether the prefix of a change is there when all newer changes are taken back: the nearest newer change of the same prefix
 // says so, or else the table.
 fn is_there(pool: &[u32], capacity: usize, standing: usize, change: usize) -> bool
-    requires { ⌜ Fit capacity (now pool) ⌝ }
+    requires { ⌜ Fit ipv4 capacity (now pool) ⌝ }
     requires { ⌜ (standing ≤ 64) × (change < standing) ⌝ }
-    ensures { λ r. ⌜ ThereSays capacity (now (pool .entry)) standing change r ⌝ }
+    ensures { λ r. ⌜ ThereSays ipv4 capacity (now (pool .entry)) standing change r ⌝ }
 {
     let prefix = pool::prefix_at(pool, pool::slot(capacity, change) + 1);
     let mut newer = change + 1;
@@ -95,10 +97,10 @@ fn is_there(pool: &[u32], capacity: usize, standing: usize, change: usize) -> bo
 
 // One change taken back: an add or a hop change needs its prefix there, a delete needs it absent and room for one more.
 fn take_back(pool: &[u32], capacity: usize, standing: usize, change: usize, held: usize) -> Taken
-    requires { ⌜ Fit capacity (now pool) ⌝ }
+    requires { ⌜ Fit ipv4 capacity (now pool) ⌝ }
     requires { ⌜ (standing ≤ 64) × (change < standing) ⌝ }
     requires { ⌜ held ≤ capacity ⌝ }
-    ensures { λ r. ⌜ TakenSays capacity (now (pool .entry)) standing change held r ⌝ }
+    ensures { λ r. ⌜ TakenSays ipv4 capacity (now (pool .entry)) standing change held r ⌝ }
 {
     let at = pool::slot(capacity, change);
     let action = pool[at];
@@ -126,9 +128,9 @@ fn take_back(pool: &[u32], capacity: usize, standing: usize, change: usize, held
 
 // Whether all standing changes could be taken back one by one, newest first.
 pub fn can_take_back(pool: &[u32], capacity: usize, standing: usize, routes: usize) -> bool
-    requires { ⌜ Fit capacity (now pool) ⌝ }
+    requires { ⌜ Fit ipv4 capacity (now pool) ⌝ }
     requires { ⌜ (standing ≤ 64) × (routes ≤ capacity) ⌝ }
-    ensures { λ r. ⌜ BackSays capacity (now (pool .entry)) standing routes r ⌝ }
+    ensures { λ r. ⌜ BackSays ipv4 capacity (now (pool .entry)) standing routes r ⌝ }
 {
     let mut held = routes;
     let mut left = standing;

@@ -1,8 +1,9 @@
 ghost use Rattle.model.specs.Call as call;
-ghost use Rattle.pool.specs.Layout.{size, capacityIn};
 ghost use Rattle.route.specs.Means.{prefixOf, routeOf};
 ghost use Rattle.route.specs.Answers.{doneNumber};
+ghost use Rattle.pool.specs.Ipv4.{ipv4};
 ghost use Rattle.promise.specs.Promise.{Promise};
+ghost use Rattle.promise.specs.Trees.{tree};
 use route::Done;
 use route::Prefix;
 use route::Route;
@@ -16,7 +17,7 @@ use ruling::may_step_back;
 
 // One route more.
 pub fn add(pool: &mut [u32], route: Route) -> Done
-    ensures { λ r. ⌜ Promise (call.add (routeOf route)) (now (pool .entry)) (now (pool .exit)) (doneNumber r) call.nothing ⌝ }
+    ensures { λ r. ⌜ Promise (tree ipv4) (call.add (routeOf route)) (now (pool .entry)) (now (pool .exit)) (doneNumber r) call.nothing ⌝ }
 {
     match may_add(pool, route) {
         May::Go(capacity) => {
@@ -30,7 +31,7 @@ pub fn add(pool: &mut [u32], route: Route) -> Done
 
 // One route less.
 pub fn delete(pool: &mut [u32], prefix: Prefix) -> Done
-    ensures { λ r. ⌜ Promise (call.delete (prefixOf prefix)) (now (pool .entry)) (now (pool .exit)) (doneNumber r) call.nothing ⌝ }
+    ensures { λ r. ⌜ Promise (tree ipv4) (call.delete (prefixOf prefix)) (now (pool .entry)) (now (pool .exit)) (doneNumber r) call.nothing ⌝ }
 {
     match may_delete(pool, prefix) {
         May::Go(capacity) => {
@@ -44,7 +45,7 @@ pub fn delete(pool: &mut [u32], prefix: Prefix) -> Done
 
 // Another hop for one route.
 pub fn change_hop(pool: &mut [u32], route: Route) -> Done
-    ensures { λ r. ⌜ Promise (call.change (routeOf route)) (now (pool .entry)) (now (pool .exit)) (doneNumber r) call.nothing ⌝ }
+    ensures { λ r. ⌜ Promise (tree ipv4) (call.change (routeOf route)) (now (pool .entry)) (now (pool .exit)) (doneNumber r) call.nothing ⌝ }
 {
     match may_change(pool, route) {
         May::Go(capacity) => {
@@ -58,7 +59,7 @@ pub fn change_hop(pool: &mut [u32], route: Route) -> Done
 
 // A trial opened: from here on the changes are recorded.
 pub fn open_trial(pool: &mut [u32]) -> Done
-    ensures { λ r. ⌜ Promise call.openTrial (now (pool .entry)) (now (pool .exit)) (doneNumber r) call.nothing ⌝ }
+    ensures { λ r. ⌜ Promise (tree ipv4) call.openTrial (now (pool .entry)) (now (pool .exit)) (doneNumber r) call.nothing ⌝ }
 {
     match may_open(pool) {
         May::Go(capacity) => {
@@ -72,7 +73,7 @@ pub fn open_trial(pool: &mut [u32]) -> Done
 
 // A trial kept: its changes stay.
 pub fn keep_trial(pool: &mut [u32]) -> Done
-    ensures { λ r. ⌜ Promise call.keep (now (pool .entry)) (now (pool .exit)) (doneNumber r) call.nothing ⌝ }
+    ensures { λ r. ⌜ Promise (tree ipv4) call.keep (now (pool .entry)) (now (pool .exit)) (doneNumber r) call.nothing ⌝ }
 {
     match may_end(pool) {
         May::Go(capacity) => {
@@ -86,7 +87,7 @@ pub fn keep_trial(pool: &mut [u32]) -> Done
 
 // All recorded changes taken back, newest first, and the trial closed. While a trial is open it is never refused.
 pub fn back_out(pool: &mut [u32]) -> Done
-    ensures { λ r. ⌜ Promise call.backOut (now (pool .entry)) (now (pool .exit)) (doneNumber r) call.nothing ⌝ }
+    ensures { λ r. ⌜ Promise (tree ipv4) call.backOut (now (pool .entry)) (now (pool .exit)) (doneNumber r) call.nothing ⌝ }
 {
     match may_end(pool) {
         May::Go(capacity) => {
@@ -100,7 +101,7 @@ pub fn back_out(pool: &mut [u32]) -> Done
 
 // The newest recorded change taken back; the trial stays open.
 pub fn step_back(pool: &mut [u32]) -> Done
-    ensures { λ r. ⌜ Promise call.stepBack (now (pool .entry)) (now (pool .exit)) (doneNumber r) call.nothing ⌝ }
+    ensures { λ r. ⌜ Promise (tree ipv4) call.stepBack (now (pool .entry)) (now (pool .exit)) (doneNumber r) call.nothing ⌝ }
 {
     match may_step_back(pool) {
         May::Go(capacity) => {

@@ -5,7 +5,9 @@ ghost use mathlib.Core.List.{[], _∷_};
 ghost use lib.ListN.{length};
 ghost use Rattle.route.specs.Means.{prefixOf, hopOf};
 ghost use Rattle.pool.specs.Layout as layout;
-ghost use Rattle.rows.specs.Writes.{writes, headWrites, recordWrites};
+ghost use Rattle.pool.specs.Write.{writes};
+ghost use Rattle.pool.specs.Ipv4.{ipv4};
+ghost use Rattle.rows.specs.Writes.{headWrites, recordWrites};
 use route::Hop;
 use route::Prefix;
 
@@ -36,8 +38,8 @@ pub fn record_change(
     old: Hop,
     new: Hop,
 )
-    requires { ⌜ (capacity ≤ 65535) × (layout.standingIn (now pool) < 64) × (layout.size capacity ≤ length (now pool)) ⌝ }
-    ensures { λ _. ⌜ now (pool .exit) ≡ writes (recordWrites capacity (layout.standingIn (now (pool .entry))) action (prefixOf prefix) (hopOf old) (hopOf new)) (now (pool .entry)) ⌝ }
+    requires { ⌜ (capacity ≤ 65535) × (layout.standingIn (now pool) < 64) × (layout.size ipv4 capacity ≤ length (now pool)) ⌝ }
+    ensures { λ _. ⌜ now (pool .exit) ≡ writes (recordWrites ipv4 capacity (layout.standingIn (now (pool .entry))) action (prefixOf prefix) (hopOf old) (hopOf new)) (now (pool .entry)) ⌝ }
 {
     let standing = pool[4];
     let at = pool::slot(capacity, pool::wide(standing));

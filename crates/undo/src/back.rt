@@ -1,6 +1,7 @@
 ghost use Rattle.model.specs.Ipv4.{Hop};
 ghost use Rattle.model.specs.State.{State};
 ghost use Rattle.model.specs.Call as call;
+ghost use Rattle.pool.specs.Ipv4.{ipv4};
 ghost use Rattle.pool.specs.Fit.{Fit};
 ghost use Rattle.edit.specs.Encodes.{Encodes};
 ghost use Rattle.apply.specs.Does.{Accepts, Accepted, Does};
@@ -8,9 +9,9 @@ use route::Route;
 
 // The newest recorded change undone in the table; its record still stands.
 fn take_back(pool: &mut [u32], capacity: usize)
-    requires { ⌜ Fit capacity (now pool) ⌝ }
-    requires { ⌜ Accepted capacity call.stepBack (now pool) ⌝ }
-    ensures { λ _. ⌜ ((s : State Hop) → Accepts capacity call.stepBack (now (pool .entry)) s → Encodes (now (pool .exit)) (call.withTrial s (call.steppedBack s (s .trial) .routes) (s .trial))) ⌝ }
+    requires { ⌜ Fit ipv4 capacity (now pool) ⌝ }
+    requires { ⌜ Accepted ipv4 capacity call.stepBack (now pool) ⌝ }
+    ensures { λ _. ⌜ ((s : State Hop) → Accepts ipv4 capacity call.stepBack (now (pool .entry)) s → Encodes ipv4 (now (pool .exit)) (call.withTrial s (call.steppedBack s (s .trial) .routes) (s .trial))) ⌝ }
 {
     let standing = pool[4];
     let at = pool::slot(capacity, pool::wide(standing - 1));
@@ -30,9 +31,9 @@ fn take_back(pool: &mut [u32], capacity: usize)
 
 // Take back the newest recorded change; the trial stays open.
 pub fn step_back(pool: &mut [u32], capacity: usize)
-    requires { ⌜ Fit capacity (now pool) ⌝ }
-    requires { ⌜ Accepted capacity call.stepBack (now pool) ⌝ }
-    ensures { λ _. ⌜ Does capacity call.stepBack (now (pool .entry)) (now (pool .exit)) ⌝ }
+    requires { ⌜ Fit ipv4 capacity (now pool) ⌝ }
+    requires { ⌜ Accepted ipv4 capacity call.stepBack (now pool) ⌝ }
+    ensures { λ _. ⌜ Does ipv4 capacity call.stepBack (now (pool .entry)) (now (pool .exit)) ⌝ }
 {
     take_back(pool, capacity);
     trial::strike(pool);
@@ -40,9 +41,9 @@ pub fn step_back(pool: &mut [u32], capacity: usize)
 
 // Take back all of them, newest first, and close the trial.
 pub fn back_out(pool: &mut [u32], capacity: usize)
-    requires { ⌜ Fit capacity (now pool) ⌝ }
-    requires { ⌜ Accepted capacity call.backOut (now pool) ⌝ }
-    ensures { λ _. ⌜ Does capacity call.backOut (now (pool .entry)) (now (pool .exit)) ⌝ }
+    requires { ⌜ Fit ipv4 capacity (now pool) ⌝ }
+    requires { ⌜ Accepted ipv4 capacity call.backOut (now pool) ⌝ }
+    ensures { λ _. ⌜ Does ipv4 capacity call.backOut (now (pool .entry)) (now (pool .exit)) ⌝ }
 {
     while pool[4] != 0 {
         step_back(pool, capacity);

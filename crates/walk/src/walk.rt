@@ -1,5 +1,7 @@
 ghost use Prim.Native.Nat.{_≤_, _<_};
 ghost use Rattle.route.specs.Means.{prefixOf};
+ghost use Rattle.route.specs.Answers.{foundNumber, foundValue};
+ghost use Rattle.pool.specs.Ipv4.{ipv4};
 ghost use Rattle.pool.specs.Fit.{Fit};
 ghost use Rattle.search.specs.Down.{AllUsable, Ways, EndsAt};
 ghost use Rattle.walk.specs.Walk.{Fronts, Firsts, RightSide, Rejoined, Goes, Nexts};
@@ -20,8 +22,8 @@ use search::down;
 
 // The first route of what stands at a link.
 fn front(pool: &[u32], capacity: usize, link: u32) -> Found
-    requires { ⌜ Fit capacity (now pool) ⌝ }
-    ensures { λ r. ⌜ Fronts capacity (now (pool .entry)) link r ⌝ }
+    requires { ⌜ Fit ipv4 capacity (now pool) ⌝ }
+    ensures { λ r. ⌜ Fronts ipv4 capacity (now (pool .entry)) link (foundNumber r) (foundValue r) ⌝ }
 {
     match leftmost(pool, capacity, link) {
         Edge::Leaf(place) => Found::Route(pool::route_at(pool, place)),
@@ -31,8 +33,8 @@ fn front(pool: &[u32], capacity: usize, link: u32) -> Found
 
 // The first route.
 pub fn first(pool: &[u32], capacity: usize) -> Found
-    requires { ⌜ Fit capacity (now pool) ⌝ }
-    ensures { λ r. ⌜ Firsts capacity (now (pool .entry)) r ⌝ }
+    requires { ⌜ Fit ipv4 capacity (now pool) ⌝ }
+    ensures { λ r. ⌜ Firsts ipv4 capacity (now (pool .entry)) (foundNumber r) (foundValue r) ⌝ }
 {
     let link = pool[2];
     if link == 0 {
@@ -49,9 +51,9 @@ fn right_side(
     level: usize,
     destination: u32,
 ) -> Found
-    requires { ⌜ Fit capacity (now pool) ⌝ }
-    requires { ⌜ (level ≤ 32) × AllUsable capacity (now pool) (now inner) level ⌝ }
-    ensures { λ r. ⌜ RightSide capacity (now (pool .entry)) destination (now (inner .entry)) level r ⌝ }
+    requires { ⌜ Fit ipv4 capacity (now pool) ⌝ }
+    requires { ⌜ (level ≤ 32) × AllUsable ipv4 capacity (now pool) (now inner) level ⌝ }
+    ensures { λ r. ⌜ RightSide ipv4 capacity (now (pool .entry)) destination (now (inner .entry)) level (foundNumber r) (foundValue r) ⌝ }
 {
     let Rise::At(at) = ascend(pool, capacity, inner, level, destination, 0) else {
         return Found::Refused(Refusal::NoFurther);
@@ -62,9 +64,9 @@ fn right_side(
 
 // From the deepest of the levels up: how many are left of those that test a bit before the one at which two addresses part.
 fn rejoin(pool: &[u32], capacity: usize, inner: &[usize; 32], depth: usize, parted: u32) -> usize
-    requires { ⌜ Fit capacity (now pool) ⌝ }
-    requires { ⌜ (depth ≤ 32) × AllUsable capacity (now pool) (now inner) depth ⌝ }
-    ensures { λ r. ⌜ Rejoined capacity (now (pool .entry)) parted (now (inner .entry)) depth r ⌝ }
+    requires { ⌜ Fit ipv4 capacity (now pool) ⌝ }
+    requires { ⌜ (depth ≤ 32) × AllUsable ipv4 capacity (now pool) (now inner) depth ⌝ }
+    ensures { λ r. ⌜ Rejoined ipv4 capacity (now (pool .entry)) parted (now (inner .entry)) depth r ⌝ }
 {
     let mut level = depth;
     while 0 < level {
@@ -79,9 +81,9 @@ fn rejoin(pool: &[u32], capacity: usize, inner: &[usize; 32], depth: usize, part
 
 // After a prefix whose address has a leaf: along the leaf's routes, or to the right of the way.
 fn within(pool: &[u32], capacity: usize, way: Way, leaf: Place, prefix: Prefix) -> Found
-    requires { ⌜ Fit capacity (now pool) ⌝ }
-    requires { ⌜ Ways capacity (now pool) (prefix .address) way × EndsAt way leaf ⌝ }
-    ensures { λ r. ⌜ Goes capacity (now (pool .entry)) (prefixOf prefix) (leaf .0) 32 r ⌝ }
+    requires { ⌜ Fit ipv4 capacity (now pool) ⌝ }
+    requires { ⌜ Ways ipv4 capacity (now pool) (prefix .address) (way .inner) (way .depth) (way .end) × EndsAt (way .end) leaf ⌝ }
+    ensures { λ r. ⌜ Goes ipv4 capacity (now (pool .entry)) (prefixOf prefix) (leaf .0) 32 (foundNumber r) (foundValue r) ⌝ }
 {
     let inner = way.inner;
     match along(pool, capacity, leaf, prefix, Wanted::After) {
@@ -93,9 +95,9 @@ fn within(pool: &[u32], capacity: usize, way: Way, leaf: Place, prefix: Prefix) 
 
 // After a prefix whose address parts from the leaf's: what stands below the parting comes after it whole, or before it whole.
 fn aside(pool: &[u32], capacity: usize, way: Way, leaf: Place, prefix: Prefix, parted: u32) -> Found
-    requires { ⌜ Fit capacity (now pool) ⌝ }
-    requires { ⌜ Ways capacity (now pool) (prefix .address) way × EndsAt way leaf × (parted < 32) ⌝ }
-    ensures { λ r. ⌜ Goes capacity (now (pool .entry)) (prefixOf prefix) (leaf .0) parted r ⌝ }
+    requires { ⌜ Fit ipv4 capacity (now pool) ⌝ }
+    requires { ⌜ Ways ipv4 capacity (now pool) (prefix .address) (way .inner) (way .depth) (way .end) × EndsAt (way .end) leaf × (parted < 32) ⌝ }
+    ensures { λ r. ⌜ Goes ipv4 capacity (now (pool .entry)) (prefixOf prefix) (leaf .0) parted (foundNumber r) (foundValue r) ⌝ }
 {
     let inner = way.inner;
     let depth = way.depth;
@@ -112,8 +114,8 @@ fn aside(pool: &[u32], capacity: usize, way: Way, leaf: Place, prefix: Prefix, p
 
 // The next route after a prefix, held or not.
 pub fn next(pool: &[u32], capacity: usize, prefix: Prefix) -> Found
-    requires { ⌜ Fit capacity (now pool) ⌝ }
-    ensures { λ r. ⌜ Nexts capacity (now (pool .entry)) (prefixOf prefix) r ⌝ }
+    requires { ⌜ Fit ipv4 capacity (now pool) ⌝ }
+    ensures { λ r. ⌜ Nexts ipv4 capacity (now (pool .entry)) (prefixOf prefix) (foundNumber r) (foundValue r) ⌝ }
 {
     let way = down(pool, capacity, prefix.address);
     let end = way.end;

@@ -4,6 +4,7 @@ use mathlib.Core.Path.{ap, _∙_}
 use native.Mathlib.Omega.{arith}
 use lib.ListN.{set, length-set}
 use Rattle.route.specs.Means.{routeOf}
+use Rattle.pool.specs.Ipv4.{ipv4}
 use Rattle.rows.specs.Writes.{routeWrites}
 use Rattle.rows.proofs.Rows.{two-more}
 use borrow.Author.Needs.{needs}
@@ -35,7 +36,7 @@ returns : tie.Need-returns
 returns c =
     let a = c .before .before .before .before .before .before .before .args in
     ap (λ (v : ℕ). set (set (c .before .before .before .write-route .last .0) 2 v) 1 (word (c .before .before .before .before .before .before .before .args .pool .now) 1 + 1)) (c .route-link .ensures)
-    ∙ two-more (a .pool .now) (c .before .before .before .write-route .last .0) (routeWrites (a .place .0) (routeOf (a .route)) 0) 2 _ 1 _ (c .before .before .before .write-route .ensures)
+    ∙ two-more (a .pool .now) (c .before .before .before .write-route .last .0) (routeWrites ipv4 (a .place .0) (routeOf (a .route)) 0) 2 _ 1 _ (c .before .before .before .write-route .ensures)
 
 pub put-first-spec : {M : Type 1} → statement M
 put-first-spec =

@@ -3,6 +3,7 @@ use mathlib.Core.Path.{ap, _∙_}
 use lib.ListN.{set}
 use Rattle.route.specs.Means.{routeOf}
 use Rattle.pool.specs.Layout.{word}
+use Rattle.pool.specs.Ipv4.{ipv4}
 use Rattle.rows.specs.Writes.{routeWrites}
 use Rattle.rows.proofs.Rows.{two-more}
 use native.Mathlib.Omega.{arith}
@@ -45,7 +46,7 @@ returns : tie.Need-returns
 returns c =
     let a = c .before .before .before .before .before .before .before .before .args in
     ap (λ (v : ℕ). set (set (c .before .before .before .write-route .last .0) (a .cell) v) 1 (word (a .pool .now) 1 + 1)) (c .route-link .ensures)
-    ∙ two-more (a .pool .now) (c .before .before .before .write-route .last .0) (routeWrites (a .place .0) (routeOf (a .route)) (word (a .pool .now) (a .cell))) (a .cell) _ 1 _ (c .before .before .before .write-route .ensures)
+    ∙ two-more (a .pool .now) (c .before .before .before .write-route .last .0) (routeWrites ipv4 (a .place .0) (routeOf (a .route)) (word (a .pool .now) (a .cell))) (a .cell) _ 1 _ (c .before .before .before .write-route .ensures)
 
 pub put-hung-spec : {M : Type 1} → statement M
 put-hung-spec =

@@ -1,8 +1,9 @@
 use mathlib.Core.Path.{ap, _∙_}
 use lib.ListN.{length}
 use Rattle.route.specs.Means.{routeOf}
+use Rattle.pool.specs.Ipv4.{ipv4}
 use Rattle.rows.specs.Writes.{joinWrites}
-use Rattle.rows.proofs.Writes.{length-writes}
+use Rattle.pool.proofs.Writes.{length-writes}
 use Rattle.rows.proofs.Rows.{join-row}
 use native.Mathlib.Omega.{arith}
 use lib.ListN.{length-set}
@@ -49,13 +50,13 @@ slice-write-pool-2 c = simp length-set (omega arith)
 returns : tie.Need-returns
 returns c =
     let a = c .before .before .before .before .before .before .before .before .before .before .before .before .before .before .before .args in
-    join-row (a .pool .now) (c .before .before .before .before .before .before .before .write-route .last .0) (c .before .before .before .write-inner .last .0) (a .capacity) (a .place .0) (a .inner .0) (a .index) (a .cell) (routeOf (a .route)) (c .before .before .before .before .before .before .before .before .before .before .route-link .result) (c .before .before .before .before .before .before .before .before .before .sides .result .0) (c .before .before .before .before .before .before .before .before .before .sides .result .1) (c .inner-link .result)
+    join-row ipv4 (a .pool .now) (c .before .before .before .before .before .before .before .write-route .last .0) (c .before .before .before .write-inner .last .0) (a .capacity) (a .place .0) (a .inner .0) (a .index) (a .cell) (routeOf (a .route)) (c .before .before .before .before .before .before .before .before .before .before .route-link .result) (c .before .before .before .before .before .before .before .before .before .sides .result .0) (c .before .before .before .before .before .before .before .before .before .sides .result .1) (c .inner-link .result)
     (c .before .before .before .before .before .before .before .before .before .before .route-link .ensures) (c .before .before .before .before .before .before .before .before .before .sides .ensures .0) (c .before .before .before .before .before .before .before .before .before .sides .ensures .1) (c .inner-link .ensures) (c .before .before .before .before .before .before .before .write-route .ensures) (c .before .before .before .write-inner .ensures)
 
 same-length : tie.Need-same-length
 same-length c =
     let a = c .before .before .before .before .before .before .before .before .before .before .before .before .before .before .before .args in
-    ap length (returns c) ∙ length-writes (joinWrites (a .pool .now) (a .capacity) (a .place .0) (a .inner .0) (routeOf (a .route)) (a .index) (a .cell)) (a .pool .now)
+    ap length (returns c) ∙ length-writes (joinWrites ipv4 (a .pool .now) (a .capacity) (a .place .0) (a .inner .0) (routeOf (a .route)) (a .index) (a .cell)) (a .pool .now)
 
 pub put-joined-spec : {M : Type 1} → statement M
 put-joined-spec =

@@ -1,8 +1,9 @@
 use mathlib.Core.Path.{ap, _∙_}
 use lib.ListN.{length}
 use Rattle.route.specs.Means.{hopOf, prefixOf, routeOf}
+use Rattle.pool.specs.Ipv4.{ipv4}
 use Rattle.rows.specs.Writes.{routeWrites}
-use Rattle.rows.proofs.Writes.{length-writes}
+use Rattle.pool.proofs.Writes.{length-writes}
 use Rattle.rows.proofs.Rows.{route-row}
 use borrow.Author.Needs.{needs}
 use Rattle.enter.proofs.write_route.Statement.{statement}
@@ -32,11 +33,11 @@ slice-write-pool c = search needs
 returns : tie.Need-returns
 returns c =
     let a = c .before .before .before .before .before .before .before .before .before .before .before .args in
-    route-row (a .pool .now) (c .before .before .before .before .before .before .write-hop .last .0) (c .before .before .write-prefix .last .0) (a .place .0) (c .before .before .before .before .before .before .before .before .before .seat .result) (hopOf (a .route .hop)) (prefixOf (a .route .prefix)) (a .next)
+    route-row ipv4 (a .pool .now) (c .before .before .before .before .before .before .write-hop .last .0) (c .before .before .write-prefix .last .0) (a .place .0) (c .before .before .before .before .before .before .before .before .before .seat .result) (hopOf (a .route .hop)) (prefixOf (a .route .prefix)) (a .next)
     (c .before .before .before .before .before .before .before .before .before .seat .ensures) (c .before .before .before .before .before .before .write-hop .ensures) (c .before .before .write-prefix .ensures)
 
 same-length : tie.Need-same-length
-same-length c = ap length (returns c) ∙ length-writes (routeWrites (c .before .before .before .before .before .before .before .before .before .before .before .args .place .0) (routeOf (c .before .before .before .before .before .before .before .before .before .before .before .args .route)) (c .before .before .before .before .before .before .before .before .before .before .before .args .next)) (c .before .before .before .before .before .before .before .before .before .before .before .args .pool .now)
+same-length c = ap length (returns c) ∙ length-writes (routeWrites ipv4 (c .before .before .before .before .before .before .before .before .before .before .before .args .place .0) (routeOf (c .before .before .before .before .before .before .before .before .before .before .before .args .route)) (c .before .before .before .before .before .before .before .before .before .before .before .args .next)) (c .before .before .before .before .before .before .before .before .before .before .before .args .pool .now)
 
 pub write-route-spec : {M : Type 1} → statement M
 write-route-spec =

@@ -3,12 +3,13 @@ use mathlib.Core.Path.{sym, _∙_}
 use native.Mathlib.Omega.{arith}
 use borrow.Author.Needs.{needs}
 use borrow.Author.Count.{below-more}
+use Rattle.pool.specs.Ipv4.{ipv4}
 use Rattle.marks.specs.Marks.{markOf}
 use Rattle.marks.proofs.free.Statement.{statement}
 use Rattle.marks.proofs.free.Tie as tie
 
 abbrev Inv-loop : tie.InvT-loop
-Inv-loop pool capacity sort at₀ at = (at ≤ capacity) × ((k : ℕ) → k < at → 1 ≤ markOf capacity pool sort k)
+Inv-loop pool capacity sort at₀ at = (at ≤ capacity) × ((k : ℕ) → k < at → 1 ≤ markOf ipv4 capacity pool sort k)
 
 abbrev μ-loop : tie.MeasureT-loop
 μ-loop pool capacity sort at₀ at = capacity - at

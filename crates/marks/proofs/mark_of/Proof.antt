@@ -1,5 +1,6 @@
 use mathlib.Core.Path.{sym, ap, _∙_}
 use borrow.Author.Needs.{needs}
+use Rattle.pool.specs.Ipv4.{ipv4}
 use Rattle.marks.specs.Marks.{markOf}
 use Rattle.marks.specs.declared.Sort.{Sort}
 use Rattle.marks.proofs.mark_of.Statement.{statement}
@@ -18,10 +19,10 @@ mark-at-requires : tie.Need-mark-at-requires
 mark-at-requires c κs = search needs
 
 returns : tie.Need-returns
-returns c = c .kind-at .ensures ∙ ap (λ (s : Sort). markOf (c .before .before .before .before .args .capacity) (c .before .before .before .before .args .pool .now) s (c .before .before .before .before .args .place .0)) (sym (c .before .enum-told .given .1))
+returns c = c .kind-at .ensures ∙ ap (λ (s : Sort). markOf ipv4 (c .before .before .before .before .args .capacity) (c .before .before .before .before .args .pool .now) s (c .before .before .before .before .args .place .0)) (sym (c .before .enum-told .given .1))
 
 returns-2 : tie.Need-returns-2
-returns-2 c = c .mark-at .ensures ∙ ap (λ (s : Sort). markOf (c .before .before .before .before .args .capacity) (c .before .before .before .before .args .pool .now) s (c .before .before .before .before .args .place .0)) (sym (c .before .enum-told2 .given .1))
+returns-2 c = c .mark-at .ensures ∙ ap (λ (s : Sort). markOf ipv4 (c .before .before .before .before .args .capacity) (c .before .before .before .before .args .pool .now) s (c .before .before .before .before .args .place .0)) (sym (c .before .enum-told2 .given .1))
 
 pub mark-of-spec : {M : Type 1} → statement M
 mark-of-spec =

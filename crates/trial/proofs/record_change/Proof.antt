@@ -1,9 +1,10 @@
 use mathlib.Core.Path.{ap, _∙_}
 use lib.ListN.{length}
 use Rattle.route.specs.Means.{prefixOf, hopOf}
-use Rattle.pool.specs.Layout.{word, slot}
+use Rattle.pool.specs.Layout.{word}
+use Rattle.pool.specs.Ipv4.{ipv4}
 use Rattle.rows.specs.Writes.{recordWrites}
-use Rattle.rows.proofs.Writes.{length-writes}
+use Rattle.pool.proofs.Writes.{length-writes}
 use Rattle.rows.proofs.Rows.{record-row}
 use native.Mathlib.Omega.{arith}
 use lib.ListN.{length-set}
@@ -53,13 +54,13 @@ slice-write-pool-2 c = omega (arith, c .before .before .write-hop2 .kept .0, c .
 returns : tie.Need-returns
 returns c =
     let a = c .before .before .before .before .before .before .before .before .before .before .before .before .before .before .before .before .args in
-    record-row (a .pool .now) (c .before .before .before .before .before .before .before .before .before .before .write-prefix .last .0) (c .before .before .before .before .before .before .write-hop .last .0) (c .before .before .write-hop2 .last .0) (a .capacity) (word (a .pool .now) 4) (c .before .before .before .before .before .before .before .before .before .before .before .before .slot .result) (a .action)
-    (prefixOf (a .prefix)) (hopOf (a .old)) (hopOf (a .new)) (c .before .before .before .before .before .before .before .before .before .before .before .before .slot .ensures ∙ ap (slot (a .capacity)) (c .before .before .before .before .before .before .before .before .before .before .before .before .before .wide .ensures)) (c .before .before .before .before .before .before .before .before .before .before .write-prefix .ensures) (c .before .before .before .before .before .before .write-hop .ensures) (c .before .before .write-hop2 .ensures)
+    record-row ipv4 (a .pool .now) (c .before .before .before .before .before .before .before .before .before .before .write-prefix .last .0) (c .before .before .before .before .before .before .write-hop .last .0) (c .before .before .write-hop2 .last .0) (a .capacity) (word (a .pool .now) 4) (c .before .before .before .before .before .before .before .before .before .before .before .before .slot .result) (a .action)
+    (prefixOf (a .prefix)) (hopOf (a .old)) (hopOf (a .new)) (c .before .before .before .before .before .before .before .before .before .before .before .before .slot .ensures ∙ ap (ipv4 .slot (a .capacity)) (c .before .before .before .before .before .before .before .before .before .before .before .before .before .wide .ensures)) (c .before .before .before .before .before .before .before .before .before .before .write-prefix .ensures) (c .before .before .before .before .before .before .write-hop .ensures) (c .before .before .write-hop2 .ensures)
 
 same-length : tie.Need-same-length
 same-length c =
     let a = c .before .before .before .before .before .before .before .before .before .before .before .before .before .before .before .before .args in
-    ap length (returns c) ∙ length-writes (recordWrites (a .capacity) (word (a .pool .now) 4) (a .action) (prefixOf (a .prefix)) (hopOf (a .old)) (hopOf (a .new))) (a .pool .now)
+    ap length (returns c) ∙ length-writes (recordWrites ipv4 (a .capacity) (word (a .pool .now) 4) (a .action) (prefixOf (a .prefix)) (hopOf (a .old)) (hopOf (a .new))) (a .pool .now)
 
 pub record-change-spec : {M : Type 1} → statement M
 record-change-spec =

@@ -1,3 +1,5 @@
+use Rattle.pool.specs.Ipv4.{ipv4}
+use Rattle.pool.proofs.Ipv4.{laid4}
 use Rattle.apply.proofs.Made.{open-does}
 use borrow.Author.Needs.{needs}
 use Rattle.apply.proofs.make.open.Statement.{statement}
@@ -10,7 +12,7 @@ same-length : tie.Need-same-length
 same-length c = search needs
 
 returns : tie.Need-returns
-returns c = λ s a. open-does _ _ _ s a (c .before .before .write-head .ensures)
+returns c = λ s a. open-does ipv4 laid4 _ _ _ s a (c .before .before .write-head .ensures)
 
 pub open-spec : {M : Type 1} → statement M
 open-spec = tie.close (tie.spec write-head-requires same-length returns)

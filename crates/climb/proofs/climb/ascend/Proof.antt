@@ -7,23 +7,24 @@ use lib.ListN.{getD}
 use Rattle.bits.specs.Address.{bit}
 use Rattle.bits.proofs.Cases.{eq-or-ne}
 use Rattle.pool.specs.Layout.{markAt}
+use Rattle.pool.specs.Ipv4.{ipv4}
 use Rattle.search.specs.Down.{Usable}
 use Rattle.climb.specs.Climb.{Takes}
 use Rattle.climb.proofs.climb.ascend.Statement.{statement}
 use Rattle.climb.proofs.climb.ascend.Tie as tie
 
 abbrev Inv-loop : tie.InvT-loop
-Inv-loop pool capacity inner depth destination side level₀ level = (level ≤ depth) × ((m : ℕ) → level ≤ m → m < depth → Takes capacity pool destination side (getD inner m 0) → ⊥)
+Inv-loop pool capacity inner depth destination side level₀ level = (level ≤ depth) × ((m : ℕ) → level ≤ m → m < depth → Takes ipv4 capacity pool destination side (getD inner m 0) → ⊥)
 
 abbrev μ-loop : tie.MeasureT-loop
 μ-loop pool capacity inner depth destination side level₀ level = level
 
 -- the place of the level can be used
-usable : (c : tie.In-loop Inv-loop μ-loop) → Usable (c .before .before .before .args .capacity) (c .before .before .before .args .pool .now) (getD (c .before .before .before .args .inner .now) (c .before .loop .level - 1) 0)
+usable : (c : tie.In-loop Inv-loop μ-loop) → Usable ipv4 (c .before .before .before .args .capacity) (c .before .before .before .args .pool .now) (getD (c .before .before .before .args .inner .now) (c .before .loop .level - 1) 0)
 usable c = c .before .before .before .pre .1 .1 (c .before .loop .level - 1) (omega arith)
 
 -- the bit that was read is the destination's at its mark
-read-bit : (c : tie.After-bit-of Inv-loop μ-loop) → c .bit-of .result ≡ bit 32 (markAt (c .before .before .before .before .before .before .args .capacity) (c .before .before .before .before .before .before .args .pool .now) (getD (c .before .before .before .before .before .before .args .inner .now) (c .before .before .before .before .loop .level - 1) 0) - 1) (c .before .before .before .before .before .before .args .destination)
+read-bit : (c : tie.After-bit-of Inv-loop μ-loop) → c .bit-of .result ≡ bit 32 (markAt ipv4 (c .before .before .before .before .before .before .args .capacity) (c .before .before .before .before .before .before .args .pool .now) (getD (c .before .before .before .before .before .before .args .inner .now) (c .before .before .before .before .loop .level - 1) 0) - 1) (c .before .before .before .before .before .before .args .destination)
 read-bit c = c .bit-of .ensures ∙ ap (λ (n : ℕ). bit 32 (n - 1) (c .before .before .before .before .before .before .args .destination)) (c .before .mark-at .ensures)
 
 loop-holds : tie.Need-loop-holds Inv-loop μ-loop
@@ -57,9 +58,9 @@ loop-again : tie.Need-loop-again Inv-loop μ-loop
 loop-again c =
     let at = c .before .before .before .before .before .loop .level - 1 in
     let a = c .before .before .before .before .before .before .before .args in
-    let here : Takes (a .capacity) (a .pool .now) (a .destination) (a .side) (getD (a .inner .now) at 0) → ⊥ = λ g. c .if1 .left (read-bit (c .before) ∙ g) in (
+    let here : Takes ipv4 (a .capacity) (a .pool .now) (a .destination) (a .side) (getD (a .inner .now) at 0) → ⊥ = λ g. c .if1 .left (read-bit (c .before) ∙ g) in (
       omega arith,
-      λ m h l g. ⊎-elim (λ e. here (subst (λ (x : ℕ). Takes (a .capacity) (a .pool .now) (a .destination) (a .side) (getD (a .inner .now) x 0)) e g))
+      λ m h l g. ⊎-elim (λ e. here (subst (λ (x : ℕ). Takes ipv4 (a .capacity) (a .pool .now) (a .destination) (a .side) (getD (a .inner .now) x 0)) e g))
           (λ n. c .before .before .before .before .before .loop .inv .1 m (omega arith) l g)
           (eq-or-ne m at),
     )

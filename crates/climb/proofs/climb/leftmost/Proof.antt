@@ -2,6 +2,7 @@ use Prim.Native.Nat.{_-_}
 use mathlib.Core.Path.{subst}
 use native.Mathlib.Omega.{arith}
 use borrow.Author.Needs.{needs}
+use Rattle.pool.specs.Ipv4.{ipv4}
 use Rattle.search.specs.Seen.{SeenRight}
 use Rattle.search.specs.declared.descent.Seen.the-variants.{Inner}
 use Rattle.climb.proofs.Left.{AllLeft, left-start, left-step, left-leaf, left-damaged}
@@ -9,16 +10,16 @@ use Rattle.climb.proofs.climb.leftmost.Statement.{statement}
 use Rattle.climb.proofs.climb.leftmost.Tie as tie
 
 abbrev Inv-loop : tie.InvT-loop
-Inv-loop pool capacity start link₀ lowest₀ link lowest = AllLeft capacity pool start link lowest
+Inv-loop pool capacity start link₀ lowest₀ link lowest = AllLeft ipv4 capacity pool start link lowest
 
 abbrev μ-loop : tie.MeasureT-loop
 μ-loop pool capacity start link₀ lowest₀ link lowest = 32 - lowest
 
-inner-seen : (c : tie.After-place2 Inv-loop μ-loop) → SeenRight (c .before .before .before .before .before .args .capacity) (c .before .before .before .before .before .args .pool .now) (c .before .before .before .loop .link) (c .before .before .before .loop .lowest) (Inner (c .place2 .given .0 .0) (c .place2 .given .0 .1 .0))
-inner-seen c = subst (SeenRight _ _ _ _) (c .place2 .given .1) (c .before .before .see .ensures)
+inner-seen : (c : tie.After-place2 Inv-loop μ-loop) → SeenRight ipv4 (c .before .before .before .before .before .args .capacity) (c .before .before .before .before .before .args .pool .now) (c .before .before .before .loop .link) (c .before .before .before .loop .lowest) (Inner (c .place2 .given .0 .0) (c .place2 .given .0 .1 .0))
+inner-seen c = subst (SeenRight ipv4 _ _ _ _) (c .place2 .given .1) (c .before .before .see .ensures)
 
 loop-holds : tie.Need-loop-holds Inv-loop μ-loop
-loop-holds c = left-start _ _ _
+loop-holds c = left-start ipv4 _ _ _
 
 see-requires : tie.Need-see-requires Inv-loop μ-loop
 see-requires c κs = search needs
@@ -27,7 +28,7 @@ enum-known-place : tie.Need-enum-known-place Inv-loop μ-loop
 enum-known-place c = search needs
 
 returns : tie.Need-returns Inv-loop μ-loop
-returns c = left-leaf _ _ _ (c .before .before .before .before .loop .link) (c .before .before .before .before .loop .lowest) _ (c .before .before .before .before .loop .inv) (subst (SeenRight _ _ _ _) (c .before .place .given .1) (c .before .before .before .see .ensures))
+returns c = left-leaf ipv4 _ _ _ (c .before .before .before .before .loop .link) (c .before .before .before .before .loop .lowest) _ (c .before .before .before .before .loop .inv) (subst (SeenRight ipv4 _ _ _ _) (c .before .place .given .1) (c .before .before .before .see .ensures))
 
 enum-known-place-2 : tie.Need-enum-known-place-2 Inv-loop μ-loop
 enum-known-place-2 c = search needs
@@ -42,13 +43,13 @@ loop-less : tie.Need-loop-less Inv-loop μ-loop
 loop-less c = let s = inner-seen (c .before .before) in omega (arith, s .3, s .4)
 
 loop-again : tie.Need-loop-again Inv-loop μ-loop
-loop-again c = left-step _ _ _ (c .before .before .before .before .before .loop .link) (c .before .before .before .before .before .loop .lowest) _ _ _ (c .before .before .before .before .before .loop .inv) (inner-seen (c .before .before)) (c .left-at .ensures)
+loop-again c = left-step ipv4 _ _ _ (c .before .before .before .before .before .loop .link) (c .before .before .before .before .before .loop .lowest) _ _ _ (c .before .before .before .before .before .loop .inv) (inner-seen (c .before .before)) (c .left-at .ensures)
 
 enum-told : tie.Need-enum-told Inv-loop μ-loop
 enum-told c = search needs
 
 returns-2 : tie.Need-returns-2 Inv-loop μ-loop
-returns-2 c = left-damaged _ _ _ (c .before .before .before .loop .link) (c .before .before .before .loop .lowest) (c .before .before .before .loop .inv) (subst (SeenRight _ _ _ _) (c .enum-told .given .1) (c .before .before .see .ensures))
+returns-2 c = left-damaged ipv4 _ _ _ (c .before .before .before .loop .link) (c .before .before .before .loop .lowest) (c .before .before .before .loop .inv) (subst (SeenRight ipv4 _ _ _ _) (c .enum-told .given .1) (c .before .before .see .ensures))
 
 pub leftmost-spec : {M : Type 1} → statement M
 leftmost-spec =

@@ -1,3 +1,4 @@
+use Rattle.pool.specs.Ipv4.{ipv4}
 use Rattle.climb.proofs.Climbing.{looks-leaf, looks-empty, looks-damaged}
 use borrow.Author.Needs.{needs}
 use Rattle.climb.proofs.climb.lookup.Statement.{statement}
@@ -19,13 +20,13 @@ enum-told-2 : tie.Need-enum-told-2
 enum-told-2 c = search needs
 
 returns : tie.Need-returns
-returns c = looks-leaf _ _ _ _ (c .before .before .before .before .down .ensures) _ _ (c .before .before .end .given .1) (c .climb .ensures)
+returns c = looks-leaf ipv4 _ _ _ _ _ _ (c .before .before .before .before .down .ensures) _ _ _ (c .before .before .end .given .1) (c .climb .ensures)
 
 returns-2 : tie.Need-returns-2
-returns-2 c = looks-empty _ _ _ _ (c .before .before .down .ensures) (c .enum-told .given .1)
+returns-2 c = looks-empty ipv4 _ _ _ _ _ _ (c .before .before .down .ensures) (c .enum-told .given .1)
 
 returns-3 : tie.Need-returns-3
-returns-3 c = looks-damaged _ _ _ _ (c .before .before .down .ensures) (c .enum-told2 .given .1)
+returns-3 c = looks-damaged ipv4 _ _ _ _ _ _ (c .before .before .down .ensures) (c .enum-told2 .given .1)
 
 pub lookup-spec : {M : Type 1} → statement M
 lookup-spec =

@@ -1,6 +1,8 @@
 use mathlib.Core.Path.{subst}
 use native.Mathlib.Omega.{arith}
 use borrow.Author.Needs.{needs}
+use Rattle.pool.specs.Ipv4.{ipv4}
+use Rattle.pool.proofs.Ipv4.{laid4}
 use Rattle.plan.specs.Planned.{HeldRight}
 use Rattle.edit.proofs.Changed.{swap-done, held-not}
 use Rattle.edit.proofs.change.swap.Statement.{statement}
@@ -15,7 +17,7 @@ enum-known-place c = search needs
 swap-hop-requires : tie.Need-swap-hop-requires
 swap-hop-requires c κs =
     let u = c .before .before .before .before .before .before .before .before .pre .0 in
-    let v = subst (HeldRight _ _ _) (c .before .before .place .given .1) (c .before .before .before .before .held-at .ensures) .inPool in
+    let v = subst (HeldRight ipv4 _ _ _) (c .before .before .place .given .1) (c .before .before .before .before .held-at .ensures) .inPool in
     (omega (arith, u .1, v .1), omega (arith, u .0, v .1))
 
 enum-told : tie.Need-enum-told
@@ -25,13 +27,13 @@ same-length : tie.Need-same-length
 same-length c = search needs
 
 returns : tie.Need-returns
-returns c = λ s p. swap-done _ _ _ s p _ _ _ _ (subst (HeldRight _ _ _) (c .before .before .before .before .before .place .given .1) (c .before .before .before .before .before .before .before .held-at .ensures)) (c .before .before .swap-hop .ensures)
+returns c = λ s p. swap-done ipv4 laid4 _ _ _ s p _ _ _ _ (subst (HeldRight ipv4 _ _ _) (c .before .before .before .before .before .place .given .1) (c .before .before .before .before .before .before .before .held-at .ensures)) (c .before .before .swap-hop .ensures)
 
 same-length-2 : tie.Need-same-length-2
 same-length-2 c = search needs
 
 returns-2 : tie.Need-returns-2
-returns-2 c = λ s p. absurd (held-not _ _ _ s p (subst (HeldRight _ _ _) (c .enum-told .given .1) (c .before .before .held-at .ensures)))
+returns-2 c = λ s p. absurd (held-not ipv4 laid4 _ _ _ s p (subst (HeldRight ipv4 _ _ _) (c .enum-told .given .1) (c .before .before .held-at .ensures)))
 
 pub swap-spec : {M : Type 1} → statement M
 swap-spec =

@@ -1,6 +1,8 @@
 use mathlib.Core.Path.{subst}
 use native.Mathlib.Omega.{arith}
 use borrow.Author.Needs.{needs}
+use Rattle.pool.specs.Ipv4.{ipv4}
+use Rattle.pool.proofs.Ipv4.{laid4}
 use Rattle.plan.specs.Planned.{TakeRight}
 use Rattle.edit.proofs.Changed.{count-some, link-done, leaf-done, last-done, nowhere-not}
 use Rattle.edit.proofs.change.take_out.Statement.{statement}
@@ -15,8 +17,8 @@ enum-known-cell c = search needs
 take-link-requires : tie.Need-take-link-requires
 take-link-requires c κs =
     let u = c .before .before .before .before .before .before .before .pre .0 in
-    let v = subst (TakeRight _ _ _) (c .before .before .cell .given .1) (c .before .before .before .before .plan-take .ensures) .inPool in
-    (omega (arith, u .1, v .1), omega (arith, u .0, v .1), count-some _ _ _ _ (c .before .before .before .before .before .before .before .pre .1 .1), v .0)
+    let v = subst (TakeRight ipv4 _ _ _) (c .before .before .cell .given .1) (c .before .before .before .before .plan-take .ensures) .inPool in
+    (omega (arith, u .1, v .1), omega (arith, u .0, v .1), count-some ipv4 laid4 _ _ _ _ (c .before .before .before .before .before .before .before .pre .1 .1), v .0)
 
 enum-known-up : tie.Need-enum-known-up
 enum-known-up c = search needs
@@ -24,8 +26,8 @@ enum-known-up c = search needs
 take-leaf-requires : tie.Need-take-leaf-requires
 take-leaf-requires c κs =
     let u = c .before .before .before .before .before .before .before .pre .0 in
-    let v = subst (TakeRight _ _ _) (c .before .before .up .given .1) (c .before .before .before .before .plan-take .ensures) .inPool in
-    ((omega (arith, u .1, v .2), omega (arith, u .0, v .2), count-some _ _ _ _ (c .before .before .before .before .before .before .before .pre .1 .1), v .0), (omega (arith, u .1, v .1), u .0, omega (arith, u .0, v .1)))
+    let v = subst (TakeRight ipv4 _ _ _) (c .before .before .up .given .1) (c .before .before .before .before .plan-take .ensures) .inPool in
+    ((omega (arith, u .1, v .2), omega (arith, u .0, v .2), count-some ipv4 laid4 _ _ _ _ (c .before .before .before .before .before .before .before .pre .1 .1), v .0), (omega (arith, u .1, v .1), u .0, omega (arith, u .0, v .1)))
 
 enum-known-place : tie.Need-enum-known-place
 enum-known-place c = search needs
@@ -33,8 +35,8 @@ enum-known-place c = search needs
 take-last-requires : tie.Need-take-last-requires
 take-last-requires c κs =
     let u = c .before .before .before .before .before .before .before .pre .0 in
-    let v = subst (TakeRight _ _ _) (c .before .before .place .given .1) (c .before .before .before .before .plan-take .ensures) .inPool in
-    (omega (arith, u .1, v), omega (arith, u .0, v), count-some _ _ _ _ (c .before .before .before .before .before .before .before .pre .1 .1))
+    let v = subst (TakeRight ipv4 _ _ _) (c .before .before .place .given .1) (c .before .before .before .before .plan-take .ensures) .inPool in
+    (omega (arith, u .1, v), omega (arith, u .0, v), count-some ipv4 laid4 _ _ _ _ (c .before .before .before .before .before .before .before .pre .1 .1))
 
 enum-told : tie.Need-enum-told
 enum-told c = search needs
@@ -43,25 +45,25 @@ same-length : tie.Need-same-length
 same-length c = search needs
 
 returns : tie.Need-returns
-returns c = λ s p. link-done _ _ _ s p _ _ _ (subst (TakeRight _ _ _) (c .before .before .before .before .before .cell .given .1) (c .before .before .before .before .before .before .before .plan-take .ensures)) (c .before .before .take-link .ensures)
+returns c = λ s p. link-done ipv4 laid4 _ _ _ s p _ _ _ (subst (TakeRight ipv4 _ _ _) (c .before .before .before .before .before .cell .given .1) (c .before .before .before .before .before .before .before .plan-take .ensures)) (c .before .before .take-link .ensures)
 
 same-length-2 : tie.Need-same-length-2
 same-length-2 c = search needs
 
 returns-2 : tie.Need-returns-2
-returns-2 c = λ s p. leaf-done _ _ _ s p _ _ _ _ _ (subst (TakeRight _ _ _) (c .before .before .before .before .before .up .given .1) (c .before .before .before .before .before .before .before .plan-take .ensures)) (c .before .before .take-leaf .ensures)
+returns-2 c = λ s p. leaf-done ipv4 laid4 _ _ _ s p _ _ _ _ _ (subst (TakeRight ipv4 _ _ _) (c .before .before .before .before .before .up .given .1) (c .before .before .before .before .before .before .before .plan-take .ensures)) (c .before .before .take-leaf .ensures)
 
 same-length-3 : tie.Need-same-length-3
 same-length-3 c = search needs
 
 returns-3 : tie.Need-returns-3
-returns-3 c = λ s p. last-done _ _ _ s p _ _ (subst (TakeRight _ _ _) (c .before .before .before .before .before .place .given .1) (c .before .before .before .before .before .before .before .plan-take .ensures)) (c .before .before .take-last .ensures)
+returns-3 c = λ s p. last-done ipv4 laid4 _ _ _ s p _ _ (subst (TakeRight ipv4 _ _ _) (c .before .before .before .before .before .place .given .1) (c .before .before .before .before .before .before .before .plan-take .ensures)) (c .before .before .take-last .ensures)
 
 same-length-4 : tie.Need-same-length-4
 same-length-4 c = search needs
 
 returns-4 : tie.Need-returns-4
-returns-4 c = λ s p. absurd (nowhere-not _ _ _ s p (subst (TakeRight _ _ _) (c .enum-told .given .1) (c .before .before .plan-take .ensures)))
+returns-4 c = λ s p. absurd (nowhere-not ipv4 laid4 _ _ _ s p (subst (TakeRight ipv4 _ _ _) (c .enum-told .given .1) (c .before .before .plan-take .ensures)))
 
 pub take-out-spec : {M : Type 1} → statement M
 take-out-spec =

@@ -1,3 +1,5 @@
+use Rattle.pool.specs.Ipv4.{ipv4}
+use Rattle.promise.specs.Trees.{tree}
 use Rattle.exports.proofs.Answers.{as-fresh}
 use borrow.Author.Needs.{needs}
 use Rattle.exports.proofs.beginning.rishavand_fresh.Statement.{statement}
@@ -13,7 +15,7 @@ same-length : tie.Need-same-length
 same-length c = search needs
 
 returns : tie.Need-returns
-returns c = as-fresh (c .number .ensures) (c .before .before .before .fresh .ensures)
+returns c = as-fresh (tree ipv4) (c .number .ensures) (c .before .before .before .fresh .ensures)
 
 pub rishavand-fresh-spec : {M : Type 1} → statement M
 rishavand-fresh-spec = tie.close (tie.spec fresh-requires number-requires same-length returns)

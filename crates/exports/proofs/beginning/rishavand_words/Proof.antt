@@ -1,5 +1,6 @@
 use mathlib.Core.Path.{ap, _∙_}
 use Rattle.pool.specs.Layout.{size}
+use Rattle.pool.specs.Ipv4.{ipv4}
 use Rattle.exports.proofs.Answers.{no-words, past-words, some-words}
 use borrow.Author.Needs.{needs}
 use Rattle.exports.proofs.beginning.rishavand_words.Statement.{statement}
@@ -18,7 +19,7 @@ size-of-requires : tie.Need-size-of-requires
 size-of-requires c κs = search needs
 
 returns-3 : tie.Need-returns-3
-returns-3 c = c .size-of .ensures ∙ ap size (c .before .wide .ensures) ∙ some-words _ (c .before .before .before .if1 .left) (c .before .before .if2 .left)
+returns-3 c = c .size-of .ensures ∙ ap (size ipv4) (c .before .wide .ensures) ∙ some-words _ (c .before .before .before .if1 .left) (c .before .before .if2 .left)
 
 pub rishavand-words-spec : {M : Type 1} → statement M
 rishavand-words-spec =

@@ -1,5 +1,7 @@
 use mathlib.Core.Path.{ap}
 use Rattle.model.specs.Call.{add}
+use Rattle.pool.specs.Ipv4.{ipv4}
+use Rattle.promise.specs.Trees.{tree}
 use Rattle.exports.proofs.Answers.{as-call}
 use borrow.Author.Needs.{needs}
 use Rattle.exports.proofs.changing.rishavand_add.Statement.{statement}
@@ -18,7 +20,7 @@ same-length : tie.Need-same-length
 same-length c = search needs
 
 returns : tie.Need-returns
-returns c = as-call (ap add (c .before .before .before .before .before .route-from .ensures)) (c .number .ensures) (c .before .before .before .add .ensures)
+returns c = as-call (tree ipv4) (ap add (c .before .before .before .before .before .route-from .ensures)) (c .number .ensures) (c .before .before .before .add .ensures)
 
 pub rishavand-add-spec : {M : Type 1} → statement M
 rishavand-add-spec =

@@ -1,5 +1,7 @@
 use mathlib.Core.Path.{ap}
 use Rattle.model.specs.Call.{delete}
+use Rattle.pool.specs.Ipv4.{ipv4}
+use Rattle.promise.specs.Trees.{tree}
 use Rattle.codes.proofs.Coded.{prefix-in}
 use Rattle.exports.proofs.Answers.{as-call}
 use borrow.Author.Needs.{needs}
@@ -19,7 +21,7 @@ same-length : tie.Need-same-length
 same-length c = search needs
 
 returns : tie.Need-returns
-returns c = as-call (ap delete (prefix-in (c .before .before .before .before .before .new .result) (c .before .before .before .before .before .new .ensures .0) (c .before .before .before .before .before .new .ensures .1))) (c .number .ensures) (c .before .before .before .delete .ensures)
+returns c = as-call (tree ipv4) (ap delete (prefix-in (c .before .before .before .before .before .new .result) (c .before .before .before .before .before .new .ensures .0) (c .before .before .before .before .before .new .ensures .1))) (c .number .ensures) (c .before .before .before .delete .ensures)
 
 pub rishavand-delete-spec : {M : Type 1} → statement M
 rishavand-delete-spec =

@@ -1,4 +1,6 @@
 use mathlib.Core.Path.{refl}
+use Rattle.pool.specs.Ipv4.{ipv4}
+use Rattle.promise.specs.Trees.{tree}
 use Rattle.exports.proofs.Answers.{as-call}
 use borrow.Author.Needs.{needs}
 use Rattle.exports.proofs.changing.rishavand_open.Statement.{statement}
@@ -14,7 +16,7 @@ same-length : tie.Need-same-length
 same-length c = search needs
 
 returns : tie.Need-returns
-returns c = as-call refl (c .number .ensures) (c .before .before .before .open-trial .ensures)
+returns c = as-call (tree ipv4) refl (c .number .ensures) (c .before .before .before .open-trial .ensures)
 
 pub rishavand-open-spec : {M : Type 1} → statement M
 rishavand-open-spec = tie.close (tie.spec open-trial-requires number-requires same-length returns)

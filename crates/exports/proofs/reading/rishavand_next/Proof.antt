@@ -1,5 +1,7 @@
 use mathlib.Core.Path.{refl, ap}
 use Rattle.model.specs.Call.{after}
+use Rattle.pool.specs.Ipv4.{ipv4}
+use Rattle.promise.specs.Trees.{tree}
 use Rattle.codes.proofs.Coded.{prefix-in, out-of}
 use Rattle.exports.proofs.Answers.{as-call}
 use borrow.Author.Needs.{needs}
@@ -16,7 +18,7 @@ show-requires : tie.Need-show-requires
 show-requires c κs = search needs
 
 returns : tie.Need-returns
-returns c = out-of (c .show .ensures) (as-call (ap after (prefix-in (c .before .before .before .new .result) (c .before .before .before .new .ensures .0) (c .before .before .before .new .ensures .1))) refl (c .before .before .next .ensures))
+returns c = out-of (c .show .ensures) (as-call (tree ipv4) (ap after (prefix-in (c .before .before .before .new .result) (c .before .before .before .new .ensures .0) (c .before .before .before .new .ensures .1))) refl (c .before .before .next .ensures))
 
 pub rishavand-next-spec : {M : Type 1} → statement M
 rishavand-next-spec = tie.close (tie.spec new-requires next-requires show-requires returns)

@@ -5,21 +5,23 @@ use borrow.Author.Needs.{needs}
 use lib.ListN.{getD}
 use Rattle.bits.specs.Address.{bit}
 use Rattle.bits.proofs.First.{bit-lt}
-use Rattle.pool.specs.Layout.{joint, markAt}
+use Rattle.pool.specs.Layout.{markAt}
+use Rattle.pool.specs.Ipv4.{ipv4}
+use Rattle.pool.proofs.Ipv4.{laid4}
 use Rattle.search.specs.Down.{Usable}
 use Rattle.plan.proofs.CellAt.{last-usable, cell-root, cell-side}
 use Rattle.plan.proofs.cells.cell_of.Statement.{statement}
 use Rattle.plan.proofs.cells.cell_of.Tie as tie
 
 -- the last place of the way can be used
-last : (c : tie.Else1) → Usable (c .before .before .args .capacity) (c .before .before .args .pool .now) (getD (c .before .before .args .t3) (c .before .before .args .depth - 1) 0)
-last c = last-usable _ _ _ _ (c .if1 .left) (c .before .before .pre .1)
+last : (c : tie.Else1) → Usable ipv4 (c .before .before .args .capacity) (c .before .before .args .pool .now) (getD (c .before .before .args .t3) (c .before .before .args .depth - 1) 0)
+last c = last-usable ipv4 laid4 _ _ _ _ (c .if1 .left) (c .before .before .pre .1)
 
 side-is : (c : tie.After-bit-of) → c .bit-of .result ≡ bit 32 (c .before .mark-at .result - 1) (c .before .before .before .before .args .address)
 side-is c = c .bit-of .ensures
 
 returns : tie.Need-returns
-returns c = cell-root _ _ _ _ _ (c .before .before .pre .0) (c .if1 .taken)
+returns c = cell-root ipv4 laid4 _ _ _ _ _ (c .before .before .pre .0) (c .if1 .taken)
 
 sub-result : tie.Need-sub-result
 sub-result c = search needs
@@ -55,9 +57,9 @@ returns-2 : tie.Need-returns-2
 returns-2 c =
     let a = c .before .before .before .before .before .before .args in
     let j = getD (a .t3) (a .depth - 1) 0 in
-    let side : c .wide .result ≡ bit 32 (markAt (a .capacity) (a .pool .now) j - 1) (a .address) =
+    let side : c .wide .result ≡ bit 32 (markAt ipv4 (a .capacity) (a .pool .now) j - 1) (a .address) =
     c .wide .ensures ∙ side-is (c .before .before) ∙ ap (λ (m : ℕ). bit 32 (m - 1) (a .address)) (c .before .before .before .mark-at .ensures) in
-    cell-side _ _ _ _ _ _ (c .before .before .before .before .before .before .pre .0) (c .before .before .before .before .before .before .pre .1) (c .before .before .before .before .if1 .left) (omega (arith, side, c .before .joint .ensures))
+    cell-side ipv4 laid4 _ _ _ _ _ _ (c .before .before .before .before .before .before .pre .0) (c .before .before .before .before .before .before .pre .1) (c .before .before .before .before .if1 .left) (omega (arith, side, c .before .joint .ensures))
 
 pub cell-of-spec : {M : Type 1} → statement M
 cell-of-spec =

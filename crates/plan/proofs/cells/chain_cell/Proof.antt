@@ -5,7 +5,8 @@ use native.Mathlib.Omega.{arith}
 use borrow.Author.Needs.{needs}
 use Rattle.model.specs.Prefix.{Prefix}
 use Rattle.patricia.specs.Obeys.{Shorter}
-use Rattle.pool.specs.Layout.{seat, prefixAt}
+use Rattle.pool.specs.Layout.{prefixAt}
+use Rattle.pool.specs.Ipv4.{ipv4}
 use Rattle.pool.specs.Link.{toRoute}
 use Rattle.search.specs.Chain.{HungRight}
 use Rattle.plan.proofs.ChainAt.{AllAt, CellFrom, chain-start, chain-here, chain-next, chain-last, chain-damaged}
@@ -14,24 +15,24 @@ use Rattle.plan.proofs.cells.chain_cell.Tie as tie
 
 abbrev Inv-loop : tie.InvT-loop
 Inv-loop pool capacity from length cell₀ place₀ cell place =
-    (place .0 < capacity) × CellFrom capacity pool from (length .0) cell × AllAt capacity pool from (length .0) (place₀ .0) cell (toRoute (place .0))
+    (place .0 < capacity) × CellFrom ipv4 capacity pool from (length .0) cell × AllAt ipv4 capacity pool from (length .0) (place₀ .0) cell (toRoute (place .0))
 
 abbrev μ-loop : tie.MeasureT-loop
-μ-loop pool capacity from length cell₀ place₀ cell place = prefixAt pool (seat (place .0) + 3) .length
+μ-loop pool capacity from length cell₀ place₀ cell place = prefixAt ipv4 pool (ipv4 .seat (place .0) + 3) .length
 
 -- the length that was read
-held : (c : tie.After-prefix-at Inv-loop μ-loop) → c .prefix-at .result .length .0 ≡ prefixAt (c .before .before .before .before .args .pool .now) (seat (c .before .before .loop .place .0) + 3) .length
-held c = ap (λ (p : Prefix). p .length) (c .prefix-at .ensures) ∙ ap (λ (n : ℕ). prefixAt (c .before .before .before .before .args .pool .now) (n + 3) .length) (c .before .seat .ensures)
+held : (c : tie.After-prefix-at Inv-loop μ-loop) → c .prefix-at .result .length .0 ≡ prefixAt ipv4 (c .before .before .before .before .args .pool .now) (ipv4 .seat (c .before .before .loop .place .0) + 3) .length
+held c = ap (λ (p : Prefix). p .length) (c .prefix-at .ensures) ∙ ap (λ (n : ℕ). prefixAt ipv4 (c .before .before .before .before .args .pool .now) (n + 3) .length) (c .before .seat .ensures)
 
 -- it is longer
-passed : (c : tie.After-follow Inv-loop μ-loop) → c .before .before .before .before .before .before .before .before .before .args .length .0 < prefixAt (c .before .before .before .before .before .before .before .before .before .args .pool .now) (seat (c .before .before .before .before .before .before .before .loop .place .0) + 3) .length
+passed : (c : tie.After-follow Inv-loop μ-loop) → c .before .before .before .before .before .before .before .before .before .args .length .0 < prefixAt ipv4 (c .before .before .before .before .before .before .before .before .before .args .pool .now) (ipv4 .seat (c .before .before .before .before .before .before .before .loop .place .0) + 3) .length
 passed c = omega (arith, c .before .before .if1 .left, held (c .before .before .before .before .before))
 
-below : (c : tie.After-follow Inv-loop μ-loop) → c .before .seat2 .result + 5 ≡ seat (c .before .before .before .before .before .before .before .loop .place .0) + 5
+below : (c : tie.After-follow Inv-loop μ-loop) → c .before .seat2 .result + 5 ≡ ipv4 .seat (c .before .before .before .before .before .before .before .loop .place .0) + 5
 below c = ap (λ (n : ℕ). n + 5) (c .before .seat2 .ensures)
 
 loop-holds : tie.Need-loop-holds Inv-loop μ-loop
-loop-holds c = (c .before .pre .1, inl refl, chain-start _ _ _ _ _)
+loop-holds c = (c .before .pre .1, inl refl, chain-start ipv4 _ _ _ _ _)
 
 seat-requires : tie.Need-seat-requires Inv-loop μ-loop
 seat-requires c κs = search needs
@@ -43,7 +44,7 @@ prefix-at-requires : tie.Need-prefix-at-requires Inv-loop μ-loop
 prefix-at-requires c κs = search needs
 
 returns : tie.Need-returns Inv-loop μ-loop
-returns c = let v = c .before .before .before .before .before .loop .inv in chain-here _ _ _ _ _ _ _ (v .2) (v .1) (omega (arith, c .if1 .taken, held (c .before .before .before)))
+returns c = let v = c .before .before .before .before .before .loop .inv in chain-here ipv4 _ _ _ _ _ _ _ (v .2) (v .1) (omega (arith, c .if1 .taken, held (c .before .before .before)))
 
 seat-requires-2 : tie.Need-seat-requires-2 Inv-loop μ-loop
 seat-requires-2 c κs = search needs
@@ -58,31 +59,31 @@ enum-known-next : tie.Need-enum-known-next Inv-loop μ-loop
 enum-known-next c = search needs
 
 loop-less : tie.Need-loop-less Inv-loop μ-loop
-loop-less c = let s = subst (HungRight _ _ _ _) (c .before .next .given .1) (c .before .before .before .follow .ensures) in omega (arith, s .2, held (c .before .before .before .before .before .before .before .before))
+loop-less c = let s = subst (HungRight ipv4 _ _ _ _) (c .before .next .given .1) (c .before .before .before .follow .ensures) in omega (arith, s .2, held (c .before .before .before .before .before .before .before .before))
 
 loop-again : tie.Need-loop-again Inv-loop μ-loop
 loop-again c =
-    let s = subst (HungRight _ _ _ _) (c .before .next .given .1) (c .before .before .before .follow .ensures) in
+    let s = subst (HungRight ipv4 _ _ _ _) (c .before .next .given .1) (c .before .before .before .follow .ensures) in
     let v = c .before .before .before .before .before .before .before .before .before .before .loop .inv in
-    (s .0, inr (c .before .before .before .before .before .before .before .before .before .before .loop .place .0, v .0, below (c .before .before .before)), chain-next _ _ _ _ _ _ _ (v .2) _ (below (c .before .before .before)) (passed (c .before .before .before)) _ (s .1))
+    (s .0, inr (c .before .before .before .before .before .before .before .before .before .before .loop .place .0, v .0, below (c .before .before .before)), chain-next ipv4 _ _ _ _ _ _ _ (v .2) _ (below (c .before .before .before)) (passed (c .before .before .before)) _ (s .1))
 
 enum-told : tie.Need-enum-told Inv-loop μ-loop
 enum-told c = search needs
 
 returns-2 : tie.Need-returns-2 Inv-loop μ-loop
 returns-2 c =
-    let s = subst (HungRight _ _ _ _) (c .enum-told .given .1) (c .before .before .follow .ensures) in
+    let s = subst (HungRight ipv4 _ _ _ _) (c .enum-told .given .1) (c .before .before .follow .ensures) in
     let v = c .before .before .before .before .before .before .before .before .before .loop .inv in
-    chain-last _ _ _ _ _ _ _ (v .2) _ (below (c .before .before)) (passed (c .before .before)) (v .0) s
+    chain-last ipv4 _ _ _ _ _ _ _ (v .2) _ (below (c .before .before)) (passed (c .before .before)) (v .0) s
 
 enum-told-2 : tie.Need-enum-told-2 Inv-loop μ-loop
 enum-told-2 c = search needs
 
 returns-3 : tie.Need-returns-3 Inv-loop μ-loop
 returns-3 c =
-    let s = subst (HungRight _ _ _ _) (c .enum-told2 .given .1) (c .before .before .follow .ensures) in
+    let s = subst (HungRight ipv4 _ _ _ _) (c .enum-told2 .given .1) (c .before .before .follow .ensures) in
     let v = c .before .before .before .before .before .before .before .before .before .loop .inv in
-    chain-damaged _ _ _ _ _ _ _ (v .2) _ (below (c .before .before)) (passed (c .before .before)) (v .0) (λ a es h k. s a es h (subst (λ (n : ℕ). Shorter n es) (sym (held (c .before .before .before .before .before .before .before))) k))
+    chain-damaged ipv4 _ _ _ _ _ _ _ (v .2) _ (below (c .before .before)) (passed (c .before .before)) (v .0) (λ a es h k. s a es h (subst (λ (n : ℕ). Shorter n es) (sym (held (c .before .before .before .before .before .before .before))) k))
 
 pub chain-cell-spec : {M : Type 1} → statement M
 chain-cell-spec =

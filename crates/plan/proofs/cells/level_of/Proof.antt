@@ -4,18 +4,19 @@ use borrow.Author.Needs.{needs}
 use borrow.Author.Count.{below-more}
 use lib.ListN.{getD}
 use Rattle.pool.specs.Layout.{markAt}
+use Rattle.pool.specs.Ipv4.{ipv4}
 use Rattle.search.specs.Down.{Usable}
 use Rattle.plan.proofs.cells.level_of.Statement.{statement}
 use Rattle.plan.proofs.cells.level_of.Tie as tie
 
 abbrev Inv-loop : tie.InvT-loop
-Inv-loop pool capacity depth index inner level₀ level = (level ≤ depth) × ((k : ℕ) → k < level → markAt capacity pool (getD inner k 0) ≤ index + 1)
+Inv-loop pool capacity depth index inner level₀ level = (level ≤ depth) × ((k : ℕ) → k < level → markAt ipv4 capacity pool (getD inner k 0) ≤ index + 1)
 
 abbrev μ-loop : tie.MeasureT-loop
 μ-loop pool capacity depth index inner level₀ level = depth - level
 
 -- the place at the level can be used
-here : (c : tie.In-loop Inv-loop μ-loop) → Usable (c .before .before .before .args .capacity) (c .before .before .before .args .pool .now) (getD (c .before .before .before .args .t3) (c .before .loop .level) 0)
+here : (c : tie.In-loop Inv-loop μ-loop) → Usable ipv4 (c .before .before .before .args .capacity) (c .before .before .before .args .pool .now) (getD (c .before .before .before .args .t3) (c .before .loop .level) 0)
 here c = c .before .before .before .pre .1 .usable (c .before .loop .level) (c .loop-test .taken)
 
 loop-holds : tie.Need-loop-holds Inv-loop μ-loop

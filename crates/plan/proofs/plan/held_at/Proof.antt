@@ -1,5 +1,7 @@
 use mathlib.Core.Path.{subst}
 use borrow.Author.Needs.{needs}
+use Rattle.pool.specs.Ipv4.{ipv4}
+use Rattle.pool.proofs.Ipv4.{laid4}
 use Rattle.search.specs.Down.{EndInPool}
 use Rattle.plan.proofs.HeldPlanned.{held-empty, held-damaged, held-leaf}
 use Rattle.plan.proofs.plan.held_at.Statement.{statement}
@@ -24,13 +26,13 @@ enum-told-2 : tie.Need-enum-told-2
 enum-told-2 c = search needs
 
 returns : tie.Need-returns
-returns c = held-leaf _ _ _ _ (c .before .before .before .before .before .before .down .ensures) _ (c .before .before .before .end .given .1) _ (c .before .cell-of .ensures) _ (c .hung-at .ensures)
+returns c = held-leaf ipv4 laid4 _ _ _ _ _ _ (c .before .before .before .before .before .before .down .ensures) _ (c .before .before .before .end .given .1) _ (c .before .cell-of .ensures) _ (c .hung-at .ensures)
 
 returns-2 : tie.Need-returns-2
-returns-2 c = held-empty _ _ _ _ (c .before .before .before .down .ensures) (c .enum-told .given .1)
+returns-2 c = held-empty ipv4 laid4 _ _ _ _ _ _ (c .before .before .before .down .ensures) (c .enum-told .given .1)
 
 returns-3 : tie.Need-returns-3
-returns-3 c = held-damaged _ _ _ _ (c .before .before .before .down .ensures) (c .enum-told2 .given .1)
+returns-3 c = held-damaged ipv4 laid4 _ _ _ _ _ _ (c .before .before .before .down .ensures) (c .enum-told2 .given .1)
 
 pub held-at-spec : {M : Type 1} → statement M
 held-at-spec =

@@ -1,6 +1,7 @@
 use Prim.Native.Nat.{ℕ, _+_}
 use mathlib.Core.Path.{ap, _∙_}
-use Rattle.pool.specs.Layout.{prefixAt, hopAt}
+use Rattle.pool.specs.Layout.{prefixAt}
+use Rattle.pool.specs.Ipv4.{hopAt, ipv4}
 use borrow.Author.Needs.{needs}
 use Rattle.pool.proofs.readers.route_at.Statement.{statement}
 use Rattle.pool.proofs.readers.route_at.Tie as tie
@@ -20,7 +21,7 @@ hop-at-requires c κs = search needs
 returns : tie.Need-returns
 returns c =
     let a = c .before .before .before .before .args in
-    let p = c .before .prefix-at .ensures ∙ ap (λ (n : ℕ). prefixAt (a .pool .now) (n + 3)) (c .before .before .seat .ensures) in
+    let p = c .before .prefix-at .ensures ∙ ap (λ (n : ℕ). prefixAt ipv4 (a .pool .now) (n + 3)) (c .before .before .seat .ensures) in
     let h = c .hop-at .ensures ∙ ap (hopAt (a .pool .now)) (c .before .before .seat .ensures) in
     λ i. record { prefix = p i; payload = h i }
 

@@ -3,7 +3,8 @@ use native.Mathlib.Omega.{arith}
 use lib.ListN.{length-set}
 use Rattle.route.specs.Means.{hopOf}
 use Rattle.route.specs.declared.hop.Hop.{Hop}
-use Rattle.pool.specs.Write.{withHop}
+use Rattle.pool.specs.Write.{writes}
+use Rattle.pool.specs.Written.{hopWrites}
 use borrow.Author.Needs.{needs}
 use Rattle.pool.proofs.writers.write_hop.Statement.{statement}
 use Rattle.pool.proofs.writers.write_hop.Tie as tie
@@ -93,19 +94,19 @@ same-length : tie.Need-same-length
 same-length c = search needs
 
 returns : tie.Need-returns
-returns c = ap (λ (h : Hop). withHop (c .before .before .before .args .pool .now) (c .before .before .before .args .at) (hopOf h)) (sym (c .before .hop .given .1))
+returns c = ap (λ (h : Hop). writes (hopWrites (c .before .before .before .args .at) (hopOf h)) (c .before .before .before .args .pool .now)) (sym (c .before .hop .given .1))
 
 same-length-2 : tie.Need-same-length-2
 same-length-2 c = search needs
 
 returns-2 : tie.Need-returns-2
-returns-2 c = ap (λ (h : Hop). withHop (c .before .before .before .args .pool .now) (c .before .before .before .args .at) (hopOf h)) (sym (c .before .hop2 .given .1))
+returns-2 c = ap (λ (h : Hop). writes (hopWrites (c .before .before .before .args .at) (hopOf h)) (c .before .before .before .args .pool .now)) (sym (c .before .hop2 .given .1))
 
 same-length-3 : tie.Need-same-length-3
 same-length-3 c = search needs
 
 returns-3 : tie.Need-returns-3
-returns-3 c = ap (λ (h : Hop). withHop (c .before .before .args .pool .now) (c .before .before .args .at) (hopOf h)) (sym (c .enum-told .given .1))
+returns-3 c = ap (λ (h : Hop). writes (hopWrites (c .before .before .args .at) (hopOf h)) (c .before .before .args .pool .now)) (sym (c .enum-told .given .1))
 
 pub write-hop-spec : {M : Type 1} → statement M
 write-hop-spec =

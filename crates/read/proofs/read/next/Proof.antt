@@ -3,6 +3,10 @@ use native.Mathlib.Omega.{arith}
 use borrow.Author.Tests.{not-true, not-false}
 use Rattle.model.specs.Call.{after}
 use Rattle.route.specs.Means.{prefixOf}
+use Rattle.route.specs.Answers.{foundNumber, foundValue}
+use Rattle.pool.specs.Ipv4.{ipv4}
+use Rattle.pool.proofs.Ipv4.{laid4}
+use Rattle.promise.specs.Trees.{tree}
 use Rattle.lent.specs.Own.{TestedRight}
 use Rattle.promise.proofs.Promises.{refuses-unsound}
 use Rattle.lent.proofs.Lent.{own-fits, sound-own}
@@ -21,25 +25,25 @@ enum-told : tie.Need-enum-told
 enum-told c = search needs
 
 returns : tie.Need-returns
-returns c = refuses-unsound (after (prefixOf (c .before .before .before .before .args .prefix))) (c .before .before .before .before .args .pool .now) refl (subst (TestedRight (c .before .before .before .before .args .pool .now)) (c .enum-told .given .1) (c .before .before .tested .ensures))
+returns c = refuses-unsound (tree ipv4) (after (prefixOf (c .before .before .before .before .args .prefix))) (c .before .before .before .before .args .pool .now) refl (subst (TestedRight (tree ipv4) (c .before .before .before .before .args .pool .now)) (c .enum-told .given .1) (c .before .before .tested .ensures))
 
 well-formed-requires : tie.Need-well-formed-requires
 well-formed-requires c κs = search needs
 
 returns-2 : tie.Need-returns-2
-returns-2 c = let v = subst (TestedRight (c .before .before .before .before .before .before .before .args .pool .now)) (c .before .before .before .capacity .given .1) (c .before .before .before .before .before .tested .ensures) in bad-prefix (c .before .before .before .before .before .before .before .args .pool .now) (prefixOf (c .before .before .before .before .before .before .before .args .prefix)) (v .0) (v .1) (sym (c .before .well-formed .ensures) ∙ not-true _ (c .if1 .taken))
+returns-2 c = let v = subst (TestedRight (tree ipv4) (c .before .before .before .before .before .before .before .args .pool .now)) (c .before .before .before .capacity .given .1) (c .before .before .before .before .before .tested .ensures) in bad-prefix ipv4 (c .before .before .before .before .before .before .before .args .pool .now) (prefixOf (c .before .before .before .before .before .before .before .args .prefix)) (v .0) (v .1) (sym (c .before .well-formed .ensures) ∙ not-true _ (c .if1 .taken))
 
 size-of-requires : tie.Need-size-of-requires
-size-of-requires c κs = let v = subst (TestedRight (c .before .before .before .before .before .before .before .args .pool .now)) (c .before .before .before .capacity .given .1) (c .before .before .before .before .before .tested .ensures) in omega (arith, sound-own (c .before .before .before .before .before .before .before .args .pool .now) _ v .1)
+size-of-requires c κs = let v = subst (TestedRight (tree ipv4) (c .before .before .before .before .before .before .before .args .pool .now)) (c .before .before .before .capacity .given .1) (c .before .before .before .before .before .tested .ensures) in omega (arith, sound-own ipv4 (c .before .before .before .before .before .before .before .args .pool .now) _ v .1)
 
 slice-aggregate-next : tie.Need-slice-aggregate-next
-slice-aggregate-next c = let v = subst (TestedRight (c .before .before .before .before .before .before .before .before .before .args .pool .now)) (c .before .before .before .before .before .capacity .given .1) (c .before .before .before .before .before .before .before .tested .ensures) in c .before .size-of .ensures ∙ sym (own-fits (c .before .before .before .before .before .before .before .before .before .args .pool .now) _ _ (sound-own (c .before .before .before .before .before .before .before .before .before .args .pool .now) _ v) (c .before .size-of .ensures) .1)
+slice-aggregate-next c = let v = subst (TestedRight (tree ipv4) (c .before .before .before .before .before .before .before .before .before .args .pool .now)) (c .before .before .before .before .before .capacity .given .1) (c .before .before .before .before .before .before .before .tested .ensures) in c .before .size-of .ensures ∙ sym (own-fits ipv4 laid4 (c .before .before .before .before .before .before .before .before .before .args .pool .now) _ _ (sound-own ipv4 (c .before .before .before .before .before .before .before .before .before .args .pool .now) _ v) (c .before .size-of .ensures) .1)
 
 next-requires : tie.Need-next-requires
-next-requires c κs = let v = subst (TestedRight (c .before .before .before .before .before .before .before .before .before .args .pool .now)) (c .before .before .before .before .before .capacity .given .1) (c .before .before .before .before .before .before .before .tested .ensures) in own-fits (c .before .before .before .before .before .before .before .before .before .args .pool .now) _ _ (sound-own (c .before .before .before .before .before .before .before .before .before .args .pool .now) _ v) (c .before .size-of .ensures)
+next-requires c κs = let v = subst (TestedRight (tree ipv4) (c .before .before .before .before .before .before .before .before .before .args .pool .now)) (c .before .before .before .before .before .capacity .given .1) (c .before .before .before .before .before .before .before .tested .ensures) in own-fits ipv4 laid4 (c .before .before .before .before .before .before .before .before .before .args .pool .now) _ _ (sound-own ipv4 (c .before .before .before .before .before .before .before .before .before .args .pool .now) _ v) (c .before .size-of .ensures)
 
 returns-3 : tie.Need-returns-3
-returns-3 c = let v = subst (TestedRight (c .before .before .before .before .before .before .before .before .before .before .args .pool .now)) (c .before .before .before .before .before .before .capacity .given .1) (c .before .before .before .before .before .before .before .before .tested .ensures) in next-answer (c .before .before .before .before .before .before .before .before .before .before .args .pool .now) _ _ (sound-own (c .before .before .before .before .before .before .before .before .before .before .args .pool .now) _ v) (c .before .before .size-of .ensures) (prefixOf (c .before .before .before .before .before .before .before .before .before .before .args .prefix)) (c .next .result) (v .0) (v .1) (sym (c .before .before .before .before .well-formed .ensures) ∙ not-false _ (c .before .before .before .if1 .left)) (c .next .ensures)
+returns-3 c = let v = subst (TestedRight (tree ipv4) (c .before .before .before .before .before .before .before .before .before .before .args .pool .now)) (c .before .before .before .before .before .before .capacity .given .1) (c .before .before .before .before .before .before .before .before .tested .ensures) in next-answer ipv4 laid4 (c .before .before .before .before .before .before .before .before .before .before .args .pool .now) _ _ (sound-own ipv4 (c .before .before .before .before .before .before .before .before .before .before .args .pool .now) _ v) (c .before .before .size-of .ensures) (prefixOf (c .before .before .before .before .before .before .before .before .before .before .args .prefix)) (foundNumber (c .next .result)) (foundValue (c .next .result)) (v .0) (v .1) (sym (c .before .before .before .before .well-formed .ensures) ∙ not-false _ (c .before .before .before .if1 .left)) (c .next .ensures)
 
 pub next-spec : {M : Type 1} → statement M
 next-spec =

@@ -4,6 +4,8 @@ use borrow.Author.Tests.{not-true, not-false}
 use borrow.Author.Needs.{needs}
 use Rattle.model.specs.Call.{change}
 use Rattle.route.specs.Means.{routeOf}
+use Rattle.pool.specs.Ipv4.{ipv4}
+use Rattle.promise.specs.Trees.{tree}
 use Rattle.lent.specs.Own.{TestedRight}
 use Rattle.ruling.specs.May.{Tells}
 use Rattle.lent.proofs.Lent.{sound-own}
@@ -21,44 +23,44 @@ enum-told : tie.Need-enum-told
 enum-told c = search needs
 
 returns : tie.Need-returns
-returns c = no-unsound (change (routeOf (c .before .before .before .before .args .route))) _ refl (subst (TestedRight (c .before .before .before .before .args .pool .now)) (c .enum-told .given .1) (c .before .before .tested .ensures))
+returns c = no-unsound (tree ipv4) (change (routeOf (c .before .before .before .before .args .route))) _ refl (subst (TestedRight (tree ipv4) (c .before .before .before .before .args .pool .now)) (c .enum-told .given .1) (c .before .before .tested .ensures))
 
 well-formed-requires : tie.Need-well-formed-requires
 well-formed-requires c κs = search needs
 
 returns-2 : tie.Need-returns-2
 returns-2 c =
-    let v = subst (TestedRight (c .before .before .before .before .before .before .before .before .args .pool .now)) (c .before .before .before .before .capacity .given .1) (c .before .before .before .before .before .before .tested .ensures) in
-    change-no-1 _ (v .0) (v .1) (routeOf (c .before .before .before .before .before .before .before .before .args .route)) (sym (c .before .well-formed .ensures) ∙ not-true _ (c .if1 .taken))
+    let v = subst (TestedRight (tree ipv4) (c .before .before .before .before .before .before .before .before .args .pool .now)) (c .before .before .before .before .capacity .given .1) (c .before .before .before .before .before .before .tested .ensures) in
+    change-no-1 (tree ipv4) _ (v .0) (v .1) (routeOf (c .before .before .before .before .before .before .before .before .args .route)) (sym (c .before .well-formed .ensures) ∙ not-true _ (c .if1 .taken))
 
 is-good-requires : tie.Need-is-good-requires
 is-good-requires c κs = search needs
 
 returns-3 : tie.Need-returns-3
 returns-3 c =
-    let v = subst (TestedRight (c .before .before .before .before .before .before .before .before .before .before .args .pool .now)) (c .before .before .before .before .before .before .capacity .given .1) (c .before .before .before .before .before .before .before .before .tested .ensures) in
-    change-no-2 _ (v .0) (v .1) (routeOf (c .before .before .before .before .before .before .before .before .before .before .args .route)) (sym (c .before .before .before .well-formed .ensures) ∙ not-false _ (c .before .before .if1 .left)) (sym (c .before .is-good .ensures) ∙ not-true _ (c .if2 .taken))
+    let v = subst (TestedRight (tree ipv4) (c .before .before .before .before .before .before .before .before .before .before .args .pool .now)) (c .before .before .before .before .before .before .capacity .given .1) (c .before .before .before .before .before .before .before .before .tested .ensures) in
+    change-no-2 (tree ipv4) _ (v .0) (v .1) (routeOf (c .before .before .before .before .before .before .before .before .before .before .args .route)) (sym (c .before .before .before .well-formed .ensures) ∙ not-false _ (c .before .before .if1 .left)) (sym (c .before .is-good .ensures) ∙ not-true _ (c .if2 .taken))
 
 holds-requires : tie.Need-holds-requires
-holds-requires c κs = subst (TestedRight (c .before .before .before .before .before .before .before .before .before .before .args .pool .now)) (c .before .before .before .before .before .before .capacity .given .1) (c .before .before .before .before .before .before .before .before .tested .ensures)
+holds-requires c κs = subst (TestedRight (tree ipv4) (c .before .before .before .before .before .before .before .before .before .before .args .pool .now)) (c .before .before .before .before .before .before .capacity .given .1) (c .before .before .before .before .before .before .before .before .tested .ensures)
 
 returns-4 : tie.Need-returns-4
 returns-4 c =
-    let v = subst (TestedRight (c .before .before .before .before .before .before .before .before .before .before .before .before .args .pool .now)) (c .before .before .before .before .before .before .before .before .capacity .given .1) (c .before .before .before .before .before .before .before .before .before .before .tested .ensures) in
-    change-no-3 _ (v .0) (v .1) (routeOf (c .before .before .before .before .before .before .before .before .before .before .before .before .args .route)) (sym (c .before .before .before .before .before .well-formed .ensures) ∙ not-false _ (c .before .before .before .before .if1 .left)) (sym (c .before .before .before .is-good .ensures) ∙ not-false _ (c .before .before .if2 .left)) (subst (Tells _ _) (not-true _ (c .if3 .taken)) (c .before .holds .ensures))
+    let v = subst (TestedRight (tree ipv4) (c .before .before .before .before .before .before .before .before .before .before .before .before .args .pool .now)) (c .before .before .before .before .before .before .before .before .capacity .given .1) (c .before .before .before .before .before .before .before .before .before .before .tested .ensures) in
+    change-no-3 (tree ipv4) _ (v .0) (v .1) (routeOf (c .before .before .before .before .before .before .before .before .before .before .before .before .args .route)) (sym (c .before .before .before .before .before .well-formed .ensures) ∙ not-false _ (c .before .before .before .before .if1 .left)) (sym (c .before .before .before .is-good .ensures) ∙ not-false _ (c .before .before .if2 .left)) (subst (Tells (tree ipv4) _ _) (not-true _ (c .if3 .taken)) (c .before .holds .ensures))
 
 trial-full-requires : tie.Need-trial-full-requires
-trial-full-requires c κs = let v = subst (TestedRight (c .before .before .before .before .before .before .before .before .before .before .before .before .args .pool .now)) (c .before .before .before .before .before .before .before .before .capacity .given .1) (c .before .before .before .before .before .before .before .before .before .before .tested .ensures) in omega (arith, sound-own (c .before .before .before .before .before .before .before .before .before .before .before .before .args .pool .now) _ v .3)
+trial-full-requires c κs = let v = subst (TestedRight (tree ipv4) (c .before .before .before .before .before .before .before .before .before .before .before .before .args .pool .now)) (c .before .before .before .before .before .before .before .before .capacity .given .1) (c .before .before .before .before .before .before .before .before .before .before .tested .ensures) in omega (arith, sound-own ipv4 (c .before .before .before .before .before .before .before .before .before .before .before .before .args .pool .now) _ v .3)
 
 returns-5 : tie.Need-returns-5
 returns-5 c =
-    let v = subst (TestedRight (c .before .before .before .before .before .before .before .before .before .before .before .before .before .before .args .pool .now)) (c .before .before .before .before .before .before .before .before .before .before .capacity .given .1) (c .before .before .before .before .before .before .before .before .before .before .before .before .tested .ensures) in
-    change-no-4 _ (v .0) (v .1) (routeOf (c .before .before .before .before .before .before .before .before .before .before .before .before .before .before .args .route)) (sym (c .before .before .before .before .before .before .before .well-formed .ensures) ∙ not-false _ (c .before .before .before .before .before .before .if1 .left)) (sym (c .before .before .before .before .before .is-good .ensures) ∙ not-false _ (c .before .before .before .before .if2 .left)) (subst (Tells _ _) (not-false _ (c .before .before .if3 .left)) (c .before .before .before .holds .ensures)) (subst (Tells _ _) (c .if4 .taken) (c .before .trial-full .ensures))
+    let v = subst (TestedRight (tree ipv4) (c .before .before .before .before .before .before .before .before .before .before .before .before .before .before .args .pool .now)) (c .before .before .before .before .before .before .before .before .before .before .capacity .given .1) (c .before .before .before .before .before .before .before .before .before .before .before .before .tested .ensures) in
+    change-no-4 (tree ipv4) _ (v .0) (v .1) (routeOf (c .before .before .before .before .before .before .before .before .before .before .before .before .before .before .args .route)) (sym (c .before .before .before .before .before .before .before .well-formed .ensures) ∙ not-false _ (c .before .before .before .before .before .before .if1 .left)) (sym (c .before .before .before .before .before .is-good .ensures) ∙ not-false _ (c .before .before .before .before .if2 .left)) (subst (Tells (tree ipv4) _ _) (not-false _ (c .before .before .if3 .left)) (c .before .before .before .holds .ensures)) (subst (Tells (tree ipv4) _ _) (c .if4 .taken) (c .before .trial-full .ensures))
 
 returns-6 : tie.Need-returns-6
 returns-6 c =
-    let v = subst (TestedRight (c .before .before .before .before .before .before .before .before .before .before .before .before .before .before .args .pool .now)) (c .before .before .before .before .before .before .before .before .before .before .capacity .given .1) (c .before .before .before .before .before .before .before .before .before .before .before .before .tested .ensures) in
-    change-goes _ (v .0) (v .1) _ (routeOf (c .before .before .before .before .before .before .before .before .before .before .before .before .before .before .args .route)) (v .2) (sym (c .before .before .before .before .before .before .before .well-formed .ensures) ∙ not-false _ (c .before .before .before .before .before .before .if1 .left)) (sym (c .before .before .before .before .before .is-good .ensures) ∙ not-false _ (c .before .before .before .before .if2 .left)) (subst (Tells _ _) (not-false _ (c .before .before .if3 .left)) (c .before .before .before .holds .ensures)) (subst (Tells _ _) (c .if4 .left) (c .before .trial-full .ensures))
+    let v = subst (TestedRight (tree ipv4) (c .before .before .before .before .before .before .before .before .before .before .before .before .before .before .args .pool .now)) (c .before .before .before .before .before .before .before .before .before .before .capacity .given .1) (c .before .before .before .before .before .before .before .before .before .before .before .before .tested .ensures) in
+    change-goes (tree ipv4) _ (v .0) (v .1) _ (routeOf (c .before .before .before .before .before .before .before .before .before .before .before .before .before .before .args .route)) (v .2) (sym (c .before .before .before .before .before .before .before .well-formed .ensures) ∙ not-false _ (c .before .before .before .before .before .before .if1 .left)) (sym (c .before .before .before .before .before .is-good .ensures) ∙ not-false _ (c .before .before .before .before .if2 .left)) (subst (Tells (tree ipv4) _ _) (not-false _ (c .before .before .if3 .left)) (c .before .before .before .holds .ensures)) (subst (Tells (tree ipv4) _ _) (c .if4 .left) (c .before .trial-full .ensures))
 
 pub may-change-spec : {M : Type 1} → statement M
 may-change-spec =

@@ -4,6 +4,8 @@ use borrow.Author.Tests.{not-true, not-false}
 use borrow.Author.Needs.{needs}
 use Rattle.model.specs.Call.{delete}
 use Rattle.route.specs.Means.{prefixOf}
+use Rattle.pool.specs.Ipv4.{ipv4}
+use Rattle.promise.specs.Trees.{tree}
 use Rattle.lent.specs.Own.{TestedRight}
 use Rattle.ruling.specs.May.{Tells}
 use Rattle.lent.proofs.Lent.{sound-own}
@@ -21,36 +23,36 @@ enum-told : tie.Need-enum-told
 enum-told c = search needs
 
 returns : tie.Need-returns
-returns c = no-unsound (delete (prefixOf (c .before .before .before .before .args .prefix))) _ refl (subst (TestedRight (c .before .before .before .before .args .pool .now)) (c .enum-told .given .1) (c .before .before .tested .ensures))
+returns c = no-unsound (tree ipv4) (delete (prefixOf (c .before .before .before .before .args .prefix))) _ refl (subst (TestedRight (tree ipv4) (c .before .before .before .before .args .pool .now)) (c .enum-told .given .1) (c .before .before .tested .ensures))
 
 well-formed-requires : tie.Need-well-formed-requires
 well-formed-requires c κs = search needs
 
 returns-2 : tie.Need-returns-2
 returns-2 c =
-    let v = subst (TestedRight (c .before .before .before .before .before .before .before .args .pool .now)) (c .before .before .before .capacity .given .1) (c .before .before .before .before .before .tested .ensures) in
-    delete-no-1 _ (v .0) (v .1) (prefixOf (c .before .before .before .before .before .before .before .args .prefix)) (sym (c .before .well-formed .ensures) ∙ not-true _ (c .if1 .taken))
+    let v = subst (TestedRight (tree ipv4) (c .before .before .before .before .before .before .before .args .pool .now)) (c .before .before .before .capacity .given .1) (c .before .before .before .before .before .tested .ensures) in
+    delete-no-1 (tree ipv4) _ (v .0) (v .1) (prefixOf (c .before .before .before .before .before .before .before .args .prefix)) (sym (c .before .well-formed .ensures) ∙ not-true _ (c .if1 .taken))
 
 holds-requires : tie.Need-holds-requires
-holds-requires c κs = subst (TestedRight (c .before .before .before .before .before .before .before .args .pool .now)) (c .before .before .before .capacity .given .1) (c .before .before .before .before .before .tested .ensures)
+holds-requires c κs = subst (TestedRight (tree ipv4) (c .before .before .before .before .before .before .before .args .pool .now)) (c .before .before .before .capacity .given .1) (c .before .before .before .before .before .tested .ensures)
 
 returns-3 : tie.Need-returns-3
 returns-3 c =
-    let v = subst (TestedRight (c .before .before .before .before .before .before .before .before .before .args .pool .now)) (c .before .before .before .before .before .capacity .given .1) (c .before .before .before .before .before .before .before .tested .ensures) in
-    delete-no-2 _ (v .0) (v .1) (prefixOf (c .before .before .before .before .before .before .before .before .before .args .prefix)) (sym (c .before .before .before .well-formed .ensures) ∙ not-false _ (c .before .before .if1 .left)) (subst (Tells _ _) (not-true _ (c .if2 .taken)) (c .before .holds .ensures))
+    let v = subst (TestedRight (tree ipv4) (c .before .before .before .before .before .before .before .before .before .args .pool .now)) (c .before .before .before .before .before .capacity .given .1) (c .before .before .before .before .before .before .before .tested .ensures) in
+    delete-no-2 (tree ipv4) _ (v .0) (v .1) (prefixOf (c .before .before .before .before .before .before .before .before .before .args .prefix)) (sym (c .before .before .before .well-formed .ensures) ∙ not-false _ (c .before .before .if1 .left)) (subst (Tells (tree ipv4) _ _) (not-true _ (c .if2 .taken)) (c .before .holds .ensures))
 
 trial-full-requires : tie.Need-trial-full-requires
-trial-full-requires c κs = let v = subst (TestedRight (c .before .before .before .before .before .before .before .before .before .args .pool .now)) (c .before .before .before .before .before .capacity .given .1) (c .before .before .before .before .before .before .before .tested .ensures) in omega (arith, sound-own (c .before .before .before .before .before .before .before .before .before .args .pool .now) _ v .3)
+trial-full-requires c κs = let v = subst (TestedRight (tree ipv4) (c .before .before .before .before .before .before .before .before .before .args .pool .now)) (c .before .before .before .before .before .capacity .given .1) (c .before .before .before .before .before .before .before .tested .ensures) in omega (arith, sound-own ipv4 (c .before .before .before .before .before .before .before .before .before .args .pool .now) _ v .3)
 
 returns-4 : tie.Need-returns-4
 returns-4 c =
-    let v = subst (TestedRight (c .before .before .before .before .before .before .before .before .before .before .before .args .pool .now)) (c .before .before .before .before .before .before .before .capacity .given .1) (c .before .before .before .before .before .before .before .before .before .tested .ensures) in
-    delete-no-3 _ (v .0) (v .1) (prefixOf (c .before .before .before .before .before .before .before .before .before .before .before .args .prefix)) (sym (c .before .before .before .before .before .well-formed .ensures) ∙ not-false _ (c .before .before .before .before .if1 .left)) (subst (Tells _ _) (not-false _ (c .before .before .if2 .left)) (c .before .before .before .holds .ensures)) (subst (Tells _ _) (c .if3 .taken) (c .before .trial-full .ensures))
+    let v = subst (TestedRight (tree ipv4) (c .before .before .before .before .before .before .before .before .before .before .before .args .pool .now)) (c .before .before .before .before .before .before .before .capacity .given .1) (c .before .before .before .before .before .before .before .before .before .tested .ensures) in
+    delete-no-3 (tree ipv4) _ (v .0) (v .1) (prefixOf (c .before .before .before .before .before .before .before .before .before .before .before .args .prefix)) (sym (c .before .before .before .before .before .well-formed .ensures) ∙ not-false _ (c .before .before .before .before .if1 .left)) (subst (Tells (tree ipv4) _ _) (not-false _ (c .before .before .if2 .left)) (c .before .before .before .holds .ensures)) (subst (Tells (tree ipv4) _ _) (c .if3 .taken) (c .before .trial-full .ensures))
 
 returns-5 : tie.Need-returns-5
 returns-5 c =
-    let v = subst (TestedRight (c .before .before .before .before .before .before .before .before .before .before .before .args .pool .now)) (c .before .before .before .before .before .before .before .capacity .given .1) (c .before .before .before .before .before .before .before .before .before .tested .ensures) in
-    delete-goes _ (v .0) (v .1) _ (prefixOf (c .before .before .before .before .before .before .before .before .before .before .before .args .prefix)) (v .2) (sym (c .before .before .before .before .before .well-formed .ensures) ∙ not-false _ (c .before .before .before .before .if1 .left)) (subst (Tells _ _) (not-false _ (c .before .before .if2 .left)) (c .before .before .before .holds .ensures)) (subst (Tells _ _) (c .if3 .left) (c .before .trial-full .ensures))
+    let v = subst (TestedRight (tree ipv4) (c .before .before .before .before .before .before .before .before .before .before .before .args .pool .now)) (c .before .before .before .before .before .before .before .capacity .given .1) (c .before .before .before .before .before .before .before .before .before .tested .ensures) in
+    delete-goes (tree ipv4) _ (v .0) (v .1) _ (prefixOf (c .before .before .before .before .before .before .before .before .before .before .before .args .prefix)) (v .2) (sym (c .before .before .before .before .before .well-formed .ensures) ∙ not-false _ (c .before .before .before .before .if1 .left)) (subst (Tells (tree ipv4) _ _) (not-false _ (c .before .before .if2 .left)) (c .before .before .before .holds .ensures)) (subst (Tells (tree ipv4) _ _) (c .if3 .left) (c .before .trial-full .ensures))
 
 pub may-delete-spec : {M : Type 1} → statement M
 may-delete-spec =

@@ -1,3 +1,4 @@
+use Rattle.pool.specs.Ipv4.{ipv4}
 use Rattle.ruling.proofs.Mays.{tells-standing}
 use borrow.Author.Needs.{needs}
 use Rattle.ruling.proofs.may.none_stands.Statement.{statement}
@@ -7,7 +8,7 @@ shared-slice-read-result : tie.Need-shared-slice-read-result
 shared-slice-read-result c = search needs
 
 returns : tie.Need-returns
-returns c = tells-standing _ 0
+returns c = tells-standing ipv4 _ 0
 
 pub none-stands-spec : {M : Type 1} → statement M
 none-stands-spec = tie.close (tie.spec shared-slice-read-result returns)

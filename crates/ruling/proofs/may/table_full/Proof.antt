@@ -1,3 +1,4 @@
+use Rattle.pool.specs.Ipv4.{ipv4}
 use Rattle.ruling.proofs.Mays.{tells-full}
 use borrow.Author.Needs.{needs}
 use Rattle.ruling.proofs.may.table_full.Statement.{statement}
@@ -10,7 +11,7 @@ shared-slice-read-result-2 : tie.Need-shared-slice-read-result-2
 shared-slice-read-result-2 c = search needs
 
 returns : tie.Need-returns
-returns c = tells-full _
+returns c = tells-full ipv4 _
 
 pub table-full-spec : {M : Type 1} → statement M
 table-full-spec = tie.close (tie.spec shared-slice-read-result shared-slice-read-result-2 returns)

@@ -1,6 +1,8 @@
 use mathlib.Core.Path.{ap, _∙_}
 use Prim.Native.Nat.{ℕ}
+use native.Mathlib.Omega.{arith}
 use lib.Dec.{eqb}
+use Rattle.pool.specs.Ipv4.{ipv4}
 use Rattle.ruling.proofs.Mays.{tells-trial-full}
 use borrow.Author.Needs.{needs}
 use Rattle.ruling.proofs.may.trial_full.Statement.{statement}
@@ -13,7 +15,7 @@ wide-requires : tie.Need-wide-requires
 wide-requires c κs = search needs
 
 returns : tie.Need-returns
-returns c = λ s m. ap (λ (n : ℕ). eqb n 64) (c .wide .ensures) ∙ tells-trial-full _ s m
+returns c = λ s m. ap (λ (n : ℕ). eqb n 64) (c .wide .ensures) ∙ tells-trial-full ipv4 (omega arith) _ s m
 
 pub trial-full-spec : {M : Type 1} → statement M
 trial-full-spec = tie.close (tie.spec shared-slice-read-wide wide-requires returns)

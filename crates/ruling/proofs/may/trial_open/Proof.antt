@@ -1,3 +1,4 @@
+use Rattle.pool.specs.Ipv4.{ipv4}
 use Rattle.ruling.proofs.Mays.{tells-open}
 use borrow.Author.Needs.{needs}
 use Rattle.ruling.proofs.may.trial_open.Statement.{statement}
@@ -7,7 +8,7 @@ shared-slice-read-result : tie.Need-shared-slice-read-result
 shared-slice-read-result c = search needs
 
 returns : tie.Need-returns
-returns c = tells-open _
+returns c = tells-open ipv4 _
 
 pub trial-open-spec : {M : Type 1} → statement M
 trial-open-spec = tie.close (tie.spec shared-slice-read-result returns)

@@ -4,6 +4,7 @@ use native.Mathlib.Omega.{arith}
 use borrow.Author.Needs.{needs}
 use lib.ListN.{length, length-set}
 use Rattle.pool.specs.Layout.{rootIn}
+use Rattle.pool.specs.Ipv4.{ipv4}
 use Rattle.search.specs.Seen.{SeenRight}
 use Rattle.search.specs.Down.{AllUsable}
 use Rattle.search.specs.declared.descent.Seen.the-variants.{Leaf, Inner}
@@ -13,26 +14,26 @@ use Rattle.search.proofs.descent.down.Tie as tie
 
 abbrev Inv-loop : tie.InvT-loop
 Inv-loop pool capacity destination inner₀ depth₀ lowest₀ link₀ inner depth lowest link =
-    (length inner ≡ 32) × (depth ≤ lowest) × (lowest ≤ 32) × (rootIn pool ≡ 0 → ⊥) × AllUsable capacity pool inner depth × AllPartway capacity pool destination inner depth link lowest
+    (length inner ≡ 32) × (depth ≤ lowest) × (lowest ≤ 32) × (rootIn pool ≡ 0 → ⊥) × AllUsable ipv4 capacity pool inner depth × AllPartway ipv4 capacity pool destination inner depth link lowest
 
 abbrev μ-loop : tie.MeasureT-loop
 μ-loop pool capacity destination inner₀ depth₀ lowest₀ link₀ inner depth lowest link = 32 - lowest
 
 -- what was seen
-leaf-seen : (c : tie.After-place Inv-loop μ-loop) → SeenRight (c .before .before .before .before .before .before .before .args .capacity) (c .before .before .before .before .before .before .before .args .pool .now) (c .before .before .before .loop .link) (c .before .before .before .loop .lowest) (Leaf (c .place .given .0 .0))
-leaf-seen c = subst (SeenRight _ _ _ _) (c .place .given .1) (c .before .before .see .ensures)
+leaf-seen : (c : tie.After-place Inv-loop μ-loop) → SeenRight ipv4 (c .before .before .before .before .before .before .before .args .capacity) (c .before .before .before .before .before .before .before .args .pool .now) (c .before .before .before .loop .link) (c .before .before .before .loop .lowest) (Leaf (c .place .given .0 .0))
+leaf-seen c = subst (SeenRight ipv4 _ _ _ _) (c .place .given .1) (c .before .before .see .ensures)
 
-inner-seen : (c : tie.After-place2 Inv-loop μ-loop) → SeenRight (c .before .before .before .before .before .before .before .args .capacity) (c .before .before .before .before .before .before .before .args .pool .now) (c .before .before .before .loop .link) (c .before .before .before .loop .lowest) (Inner (c .place2 .given .0 .0) (c .place2 .given .0 .1 .0))
-inner-seen c = subst (SeenRight _ _ _ _) (c .place2 .given .1) (c .before .before .see .ensures)
+inner-seen : (c : tie.After-place2 Inv-loop μ-loop) → SeenRight ipv4 (c .before .before .before .before .before .before .before .args .capacity) (c .before .before .before .before .before .before .before .args .pool .now) (c .before .before .before .loop .link) (c .before .before .before .loop .lowest) (Inner (c .place2 .given .0 .0) (c .place2 .given .0 .1 .0))
+inner-seen c = subst (SeenRight ipv4 _ _ _ _) (c .place2 .given .1) (c .before .before .see .ensures)
 
 shared-slice-read-link : tie.Need-shared-slice-read-link Inv-loop μ-loop
 shared-slice-read-link c = search needs
 
 returns : tie.Need-returns Inv-loop μ-loop
-returns c = ways-empty _ _ _ _ (c .if1 .taken)
+returns c = ways-empty ipv4 _ _ _ _ (c .if1 .taken)
 
 loop-holds : tie.Need-loop-holds Inv-loop μ-loop
-loop-holds c = (refl, omega arith, omega arith, c .if1 .left, λ k l. absurd (omega arith), at-root _ _ _ _)
+loop-holds c = (refl, omega arith, omega arith, c .if1 .left, λ k l. absurd (omega arith), at-root ipv4 _ _ _ _)
 
 see-requires : tie.Need-see-requires Inv-loop μ-loop
 see-requires c κs = search needs
@@ -41,7 +42,7 @@ enum-known-place : tie.Need-enum-known-place Inv-loop μ-loop
 enum-known-place c = search needs
 
 returns-2 : tie.Need-returns-2 Inv-loop μ-loop
-returns-2 c = let v = c .before .before .before .before .loop .inv in ways-leaf _ _ _ _ _ (c .before .before .before .before .loop .link) (c .before .before .before .before .loop .lowest) _ (omega arith) (v .4) (v .5) (v .3) (leaf-seen (c .before))
+returns-2 c = let v = c .before .before .before .before .loop .inv in ways-leaf ipv4 _ _ _ _ _ (c .before .before .before .before .loop .link) (c .before .before .before .before .loop .lowest) _ (omega arith) (v .4) (v .5) (v .3) (leaf-seen (c .before))
 
 enum-known-place-2 : tie.Need-enum-known-place-2 Inv-loop μ-loop
 enum-known-place-2 c = search needs
@@ -74,15 +75,15 @@ loop-again c =
       omega (arith, s .3),
       omega (arith, s .4),
       v .3,
-      usable-more _ _ (l .inner) (l .depth) _ (c .before .before .place2 .given .0 .1 .0) _ _ (v .4) room s,
-      step-down _ _ _ _ _ _ _ _ (c .before .before .place2 .given .0 .1 .0) _ (v .5) room s (c .side-at .ensures),
+      usable-more ipv4 _ _ (l .inner) (l .depth) _ (c .before .before .place2 .given .0 .1 .0) _ _ (v .4) room s,
+      step-down ipv4 _ _ _ _ _ _ _ _ (c .before .before .place2 .given .0 .1 .0) _ (v .5) room s (c .side-at .ensures),
     )
 
 enum-told : tie.Need-enum-told Inv-loop μ-loop
 enum-told c = search needs
 
 returns-3 : tie.Need-returns-3 Inv-loop μ-loop
-returns-3 c = let v = c .before .before .before .loop .inv in ways-damaged _ _ _ _ _ (c .before .before .before .loop .link) (c .before .before .before .loop .lowest) (omega arith) (v .4) (v .5) (v .3) (subst (SeenRight _ _ _ _) (c .enum-told .given .1) (c .before .before .see .ensures))
+returns-3 c = let v = c .before .before .before .loop .inv in ways-damaged ipv4 _ _ _ _ _ (c .before .before .before .loop .link) (c .before .before .before .loop .lowest) (omega arith) (v .4) (v .5) (v .3) (subst (SeenRight ipv4 _ _ _ _) (c .enum-told .given .1) (c .before .before .see .ensures))
 
 pub down-spec : {M : Type 1} → statement M
 down-spec =

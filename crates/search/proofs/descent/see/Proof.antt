@@ -1,5 +1,6 @@
 use mathlib.Core.Path.{_≡_}
 use native.Mathlib.Omega.{arith}
+use Rattle.pool.specs.Ipv4.{ipv4}
 use Rattle.pool.specs.Link.{toRoute, toInner}
 use Rattle.pool.specs.declared.link.Link.the-variants.{Nothing, Route, Inner}
 use Rattle.pool.proofs.Unique.{not-nothing}
@@ -28,28 +29,28 @@ enum-known-place-2 : tie.Need-enum-known-place-2
 enum-known-place-2 c = search needs
 
 returns : tie.Need-returns
-returns c = λ t h g s. let w = inner-inside _ _ _ _ _ t h g s (inner (c .before .before .before)) in omega (arith, c .if2 .taken)
+returns c = λ t h g s. let w = inner-inside ipv4 _ _ _ _ _ t h g s (inner (c .before .before .before)) in omega (arith, c .if2 .taken)
 
 mark-at-requires : tie.Need-mark-at-requires
 mark-at-requires c κs = search needs
 
 returns-2 : tie.Need-returns-2
-returns-2 c = λ t h g s. let w = inner-inside _ _ _ _ _ t h g s (inner (c .before .before .before .before .before)) in omega (arith, c .if3 .taken, c .before .mark-at .ensures)
+returns-2 c = λ t h g s. let w = inner-inside ipv4 _ _ _ _ _ t h g s (inner (c .before .before .before .before .before)) in omega (arith, c .if3 .taken, c .before .mark-at .ensures)
 
 returns-3 : tie.Need-returns-3
-returns-3 c = λ t h g s. let w = inner-inside _ _ _ _ _ t h g s (inner (c .before .before .before .before .before .before)) in omega (arith, c .if4 .taken, c .before .before .mark-at .ensures)
+returns-3 c = λ t h g s. let w = inner-inside ipv4 _ _ _ _ _ t h g s (inner (c .before .before .before .before .before .before)) in omega (arith, c .if4 .taken, c .before .before .mark-at .ensures)
 
 sub-t13 : tie.Need-sub-t13
 sub-t13 c = search needs
 
 returns-4 : tie.Need-returns-4
-returns-4 c = λ t h g s. not-nothing _ _ _ t h (read-as _ _ Nothing (c .before .before .link-from .ensures) (c .enum-told .given .1))
+returns-4 c = λ t h g s. not-nothing ipv4 _ _ _ t h (read-as _ _ Nothing (c .before .before .link-from .ensures) (c .enum-told .given .1))
 
 returns-5 : tie.Need-returns-5
 returns-5 c = (c .if1 .taken, routed (c .before .before .before))
 
 returns-6 : tie.Need-returns-6
-returns-6 c = λ t h g s. let w = route-inside _ _ _ _ t h (routed (c .before .before .before)) in omega (arith, c .if1 .left)
+returns-6 c = λ t h g s. let w = route-inside ipv4 _ _ _ _ t h (routed (c .before .before .before)) in omega (arith, c .if1 .left)
 
 returns-7 : tie.Need-returns-7
 returns-7 c = (omega (arith, c .before .before .before .if2 .left), inner (c .before .before .before .before .before .before), omega (arith, c .before .before .mark-at .ensures), omega arith, omega arith)

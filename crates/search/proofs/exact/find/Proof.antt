@@ -1,4 +1,5 @@
 use mathlib.Core.Path.{subst}
+use Rattle.pool.specs.Ipv4.{ipv4}
 use Rattle.search.specs.Down.{EndInPool}
 use Rattle.search.proofs.Spots.{finds-empty, finds-damaged, finds-leaf}
 use borrow.Author.Needs.{needs}
@@ -21,13 +22,13 @@ enum-told-2 : tie.Need-enum-told-2
 enum-told-2 c = search needs
 
 returns : tie.Need-returns
-returns c = finds-leaf _ _ _ _ (c .before .before .before .before .down .ensures) _ _ (c .before .before .end .given .1) (c .along .ensures)
+returns c = finds-leaf ipv4 _ _ _ _ _ _ (c .before .before .before .before .down .ensures) _ _ (c .before .before .end .given .1) (c .along .ensures)
 
 returns-2 : tie.Need-returns-2
-returns-2 c = finds-empty _ _ _ _ (c .before .before .down .ensures) (c .enum-told .given .1)
+returns-2 c = finds-empty ipv4 _ _ _ _ _ _ (c .before .before .down .ensures) (c .enum-told .given .1)
 
 returns-3 : tie.Need-returns-3
-returns-3 c = finds-damaged _ _ _ _ (c .before .before .down .ensures) (c .enum-told2 .given .1)
+returns-3 c = finds-damaged ipv4 _ _ _ _ _ _ (c .before .before .down .ensures) (c .enum-told2 .given .1)
 
 pub find-spec : {M : Type 1} → statement M
 find-spec =

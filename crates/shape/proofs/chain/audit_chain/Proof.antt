@@ -3,6 +3,7 @@ use native.Mathlib.Omega.{arith}
 use borrow.Author.Needs.{needs}
 use Rattle.model.specs.Ipv4.{Hop}
 use Rattle.model.specs.Routes.{Route}
+use Rattle.pool.specs.Ipv4.{ipv4}
 use Rattle.shape.specs.Chain.{HungSays}
 use Rattle.shape.specs.declared.chain.Hung.{Hung}
 use Rattle.shape.proofs.Hanging.{Along, along-start, along-step, leaf-address, chain-bad, chain-fine}
@@ -10,13 +11,13 @@ use Rattle.shape.proofs.chain.audit_chain.Statement.{statement}
 use Rattle.shape.proofs.chain.audit_chain.Tie as tie
 
 abbrev Inv-loop : tie.InvT-loop
-Inv-loop pool capacity first address link₀ bound₀ routes₀ link bound routes = Along capacity pool address link₀ link bound routes
+Inv-loop pool capacity first address link₀ bound₀ routes₀ link bound routes = Along ipv4 capacity pool address link₀ link bound routes
 
 abbrev μ-loop : tie.MeasureT-loop
 μ-loop pool capacity first address link₀ bound₀ routes₀ link bound routes = bound
 
 returns : tie.Need-returns Inv-loop μ-loop
-returns c a es f = omega (arith, leaf-address _ _ a _ es f .0, c .if1 .taken)
+returns c a es f = omega (arith, leaf-address ipv4 _ _ a _ es f .0, c .if1 .taken)
 
 route-at-requires : tie.Need-route-at-requires Inv-loop μ-loop
 route-at-requires c κs = search needs
@@ -25,7 +26,7 @@ route-link-requires : tie.Need-route-link-requires Inv-loop μ-loop
 route-link-requires c κs = search needs
 
 loop-holds : tie.Need-loop-holds Inv-loop μ-loop
-loop-holds c = along-start _ _ _ (c .route-link .result)
+loop-holds c = along-start ipv4 _ _ _ (c .route-link .result)
 
 step-requires : tie.Need-step-requires Inv-loop μ-loop
 step-requires c κs = c .before .before .before .before .before .before .pre
@@ -39,27 +40,27 @@ enum-told c = search needs
 returns-2 : tie.Need-returns-2 Inv-loop μ-loop
 returns-2 c =
     let address = ap (λ (r : Route Hop). r .prefix .address) (c .before .before .before .before .before .before .route-at .ensures) in
-    let bad = subst (HungSays (c .before .before .before .before .before .before .before .before .before .args .capacity) (c .before .before .before .before .before .before .before .before .before .args .pool .now) (c .before .before .before .before .loop .link) (c .before .before .before .before .before .before .route-at .result .prefix .address) (c .before .before .before .before .loop .bound)) (c .enum-told .given .1) (c .before .before .step .ensures) in
-    chain-bad _ _ _ _ _ _ _ _ (c .before .before .before .before .before .route-link .ensures) (c .before .before .before .before .loop .inv) address (c .before .before .before .loop-test .taken) bad
+    let bad = subst (HungSays ipv4 (c .before .before .before .before .before .before .before .before .before .args .capacity) (c .before .before .before .before .before .before .before .before .before .args .pool .now) (c .before .before .before .before .loop .link) (c .before .before .before .before .before .before .route-at .result .prefix .address) (c .before .before .before .before .loop .bound)) (c .enum-told .given .1) (c .before .before .step .ensures) in
+    chain-bad ipv4 _ _ _ _ _ _ _ _ (c .before .before .before .before .before .route-link .ensures) (c .before .before .before .before .loop .inv) address (c .before .before .before .loop-test .taken) bad
 
 add-routes : tie.Need-add-routes Inv-loop μ-loop
 add-routes c = omega (arith, c .before .before .before .before .before .loop .inv .few)
 
 next-says : (c : tie.After-known-told Inv-loop μ-loop)
-    → HungSays (c .before .before .before .before .before .before .before .before .before .before .args .capacity) (c .before .before .before .before .before .before .before .before .before .before .args .pool .now) (c .before .before .before .before .before .loop .link) (c .before .before .before .before .before .before .before .route-at .result .prefix .address) (c .before .before .before .before .before .loop .bound)
+    → HungSays ipv4 (c .before .before .before .before .before .before .before .before .before .before .args .capacity) (c .before .before .before .before .before .before .before .before .before .before .args .pool .now) (c .before .before .before .before .before .loop .link) (c .before .before .before .before .before .before .before .route-at .result .prefix .address) (c .before .before .before .before .before .loop .bound)
     (Hung.Next (c .before .next .given .0 .0) (c .before .next .given .0 .1 .0))
 next-says c =
-    subst (HungSays (c .before .before .before .before .before .before .before .before .before .before .args .capacity) (c .before .before .before .before .before .before .before .before .before .before .args .pool .now) (c .before .before .before .before .before .loop .link) (c .before .before .before .before .before .before .before .route-at .result .prefix .address) (c .before .before .before .before .before .loop .bound))
+    subst (HungSays ipv4 (c .before .before .before .before .before .before .before .before .before .before .args .capacity) (c .before .before .before .before .before .before .before .before .before .before .args .pool .now) (c .before .before .before .before .before .loop .link) (c .before .before .before .before .before .before .before .route-at .result .prefix .address) (c .before .before .before .before .before .loop .bound))
     (c .before .next .given .1) (c .before .before .before .step .ensures)
 
 loop-less : tie.Need-loop-less Inv-loop μ-loop
 loop-less c = let (i, f, p, q) = next-says c in omega (arith, q, f .shorter)
 
 loop-again : tie.Need-loop-again Inv-loop μ-loop
-loop-again c = along-step _ _ _ _ _ _ _ _ _ (c .before .before .before .before .loop-test .taken) (c .before .before .before .before .before .loop .inv) (next-says c)
+loop-again c = along-step ipv4 _ _ _ _ _ _ _ _ _ (c .before .before .before .before .loop-test .taken) (c .before .before .before .before .before .loop .inv) (next-says c)
 
 returns-3 : tie.Need-returns-3 Inv-loop μ-loop
-returns-3 c = chain-fine _ _ _ _ _ _ _ _ (c .before .before .route-link .ensures) (c .before .loop .inv) (c .loop-test .left)
+returns-3 c = chain-fine ipv4 _ _ _ _ _ _ _ _ (c .before .before .route-link .ensures) (c .before .loop .inv) (c .loop-test .left)
 
 pub audit-chain-spec : {M : Type 1} → statement M
 audit-chain-spec =

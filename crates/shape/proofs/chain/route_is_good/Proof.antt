@@ -20,7 +20,7 @@ returns-2 : tie.Need-returns-2
 returns-2 c = refused (λ f. omega (arith, f .used))
 
 returns-3 : tie.Need-returns-3
-returns-3 c = refused (λ f. omega (arith, f .kindKnown))
+returns-3 c = refused (λ f. omega (arith, f .known))
 
 route-at-requires : tie.Need-route-at-requires
 route-at-requires c κs = search needs
@@ -54,7 +54,7 @@ returns-6 c =
       λ t. record {
         inPool = c .before .before .before .before .before .before .before .before .before .before .if1 .left;
         used = omega (arith, kind, c .before .before .before .before .before .before .before .before .if2 .left);
-        kindKnown = omega (arith, kind, c .before .before .before .before .before .before .before .if3 .left);
+        known = omega (arith, kind, c .before .before .before .before .before .before .before .if3 .left);
         obeys = (w, m, sym g ∙ t);
       },
       λ f. g ∙ f .obeys .2,

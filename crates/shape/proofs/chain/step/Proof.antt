@@ -7,6 +7,7 @@ use borrow.Author.Tests.{not-true, not-false}
 use Rattle.model.specs.Ipv4.{Hop}
 use Rattle.model.specs.Routes.{Route}
 use Rattle.model.proofs.Tests.{not-both}
+use Rattle.pool.specs.Ipv4.{ipv4}
 use Rattle.pool.specs.Link.{toRoute}
 use Rattle.pool.proofs.Words.{route-linked}
 use Rattle.shape.specs.Chain.{addressAt, lengthAt, RouteFine}
@@ -37,10 +38,10 @@ returns-2 c i f =
     let v = place-of (c .before .before) in
     let u = f .linked in
     let same : i ≡ c .before .before .before .place .given .0 .0 .0 = omega (arith, u, v) in
-    not-both (c .before .route-is-good .ensures .1 (subst (RouteFine _ _) same (f .fine))) (not-true _ (c .if1 .taken))
+    not-both (c .before .route-is-good .ensures .1 (subst (RouteFine ipv4 _ _) same (f .fine))) (not-true _ (c .if1 .taken))
 
 -- the route there is fine
-fine : (c : tie.Else1) → RouteFine (c .before .before .before .before .before .before .before .args .capacity) (c .before .before .before .before .before .before .before .args .pool .now) (c .before .before .before .place .given .0 .0 .0)
+fine : (c : tie.Else1) → RouteFine ipv4 (c .before .before .before .before .before .before .before .args .capacity) (c .before .before .before .before .before .before .before .args .pool .now) (c .before .before .before .place .given .0 .0 .0)
 fine c = c .before .route-is-good .ensures .0 (not-false _ (c .if1 .left))
 
 route-at-requires : tie.Need-route-at-requires
@@ -51,14 +52,14 @@ returns-3 c i f =
     let v = place-of (c .before .before .before .before .before .before) in
     let u = f .linked in
     let same : i ≡ c .before .before .before .before .before .before .before .place .given .0 .0 .0 = omega (arith, u, v) in
-    c .if2 .taken (ap (λ (r : Route Hop). r .prefix .address) (c .before .before .before .route-at .ensures) ∙ ap (addressAt (c .before .before .before .before .before .before .before .before .before .before .before .args .pool .now)) (sym same) ∙ f .address)
+    c .if2 .taken (ap (λ (r : Route Hop). r .prefix .address) (c .before .before .before .route-at .ensures) ∙ ap (addressAt ipv4 (c .before .before .before .before .before .before .before .before .before .before .before .args .pool .now)) (sym same) ∙ f .address)
 
 returns-4 : tie.Need-returns-4
 returns-4 c i f =
     let v = place-of (c .before .before .before .before .before .before .before) in
     let u = f .linked in
     let same : i ≡ c .before .before .before .before .before .before .before .before .place .given .0 .0 .0 = omega (arith, u, v) in
-    let n = ap (λ (r : Route Hop). r .prefix .length) (c .before .before .before .before .route-at .ensures) ∙ ap (lengthAt (c .before .before .before .before .before .before .before .before .before .before .before .before .args .pool .now)) (sym same) in
+    let n = ap (λ (r : Route Hop). r .prefix .length) (c .before .before .before .before .route-at .ensures) ∙ ap (lengthAt ipv4 (c .before .before .before .before .before .before .before .before .before .before .before .before .args .pool .now)) (sym same) in
     omega (arith, n, f .shorter, c .if3 .taken)
 
 next-at-requires : tie.Need-next-at-requires
@@ -69,7 +70,7 @@ returns-5 c =
     let i = c .before .before .before .before .before .before .before .before .before .place .given .0 .0 .0 in
     let ws = c .before .before .before .before .before .before .before .before .before .before .before .before .before .args .pool .now in
     let r = c .before .before .before .before .before .route-at .ensures in
-    let n : _ ≡ lengthAt ws i = ap (λ (r : Route Hop). r .prefix .length) r in (
+    let n : _ ≡ lengthAt ipv4 ws i = ap (λ (r : Route Hop). r .prefix .length) r in (
       i,
       record {
         linked = place-of (c .before .before .before .before .before .before .before .before);

@@ -1,13 +1,13 @@
-use Prim.Native.Nat.{ℕ, _-_, _^_, _≤_, _<_}
+use Prim.Native.Nat.{ℕ, _-_, _<_}
 use mathlib.Core.Path.{refl, sym, subst, _∙_}
-use native.Mathlib.Nat.{pow-le-pow-right}
 use native.Mathlib.Omega.{arith}
 use borrow.Author.Needs.{needs}
 use Rattle.pool.specs.Layout.{markAt, leftAt, rightAt}
+use Rattle.pool.specs.Ipv4.{ipv4}
 use Rattle.shape.specs.Tree.{TreeSays}
 use Rattle.shape.specs.declared.tree.TreeAudit.{TreeAudit}
 use Rattle.shape.proofs.Links.{nothing-from, route-from, inner-from}
-use Rattle.shape.proofs.Grown.{nothing-bad, Seen, inner-out, left-bad, right-bad, joined}
+use Rattle.shape.proofs.Grown.{nothing-bad, Seen, inner-out, left-bad, right-bad, joined, few-routes, few-inners}
 use borrow.Fn.Kinds.{In}
 use borrow.Fn.PlainCycle.{Measures, is, falls, and}
 use Rattle.shape.proofs.tree.audit_tree.Reads as audit-tree
@@ -54,10 +54,10 @@ audit-tree-enum-known-place-2 t c = search needs
 
 -- the words of the inner place, as far as they were read
 seen : (t : ℕ) (c : audit-tree-lts.After-known-told2 (claims t) (audit-tree-at t) audit-tree.Post)
-    → Seen (c .before .before .before .before .before .args .capacity) (c .before .before .before .before .before .args .pool .now) (c .before .before .before .before .before .args .link) (c .before .place2 .given .0 .0 .0)
-    (markAt (c .before .before .before .before .before .args .capacity) (c .before .before .before .before .before .args .pool .now) (c .before .place2 .given .0 .0 .0))
-    (leftAt (c .before .before .before .before .before .args .capacity) (c .before .before .before .before .before .args .pool .now) (c .before .place2 .given .0 .0 .0))
-    (rightAt (c .before .before .before .before .before .args .capacity) (c .before .before .before .before .before .args .pool .now) (c .before .place2 .given .0 .0 .0))
+    → Seen ipv4 (c .before .before .before .before .before .args .capacity) (c .before .before .before .before .before .args .pool .now) (c .before .before .before .before .before .args .link) (c .before .place2 .given .0 .0 .0)
+    (markAt ipv4 (c .before .before .before .before .before .args .capacity) (c .before .before .before .before .before .args .pool .now) (c .before .place2 .given .0 .0 .0))
+    (leftAt ipv4 (c .before .before .before .before .before .args .capacity) (c .before .before .before .before .before .args .pool .now) (c .before .place2 .given .0 .0 .0))
+    (rightAt ipv4 (c .before .before .before .before .before .args .capacity) (c .before .before .before .before .before .args .pool .now) (c .before .place2 .given .0 .0 .0))
 seen t c = record {
   linked = inner-from (c .before .before .before .before .before .args .link) (c .before .place2 .given .0 .0) (sym (c .before .before .before .link-from .ensures) ∙ c .before .place2 .given .1);
   markThere = refl;
@@ -66,16 +66,16 @@ seen t c = record {
 }
 
 audit-tree-returns : (t : ℕ) → audit-tree-lts.Need-returns (claims t) (audit-tree-at t) audit-tree.Post
-audit-tree-returns t c u f = omega (arith, inner-out _ _ _ _ _ _ _ _ (seen t (c .before)) u f .0)
+audit-tree-returns t c u f = omega (arith, inner-out ipv4 _ _ _ _ _ _ _ _ (seen t (c .before)) u f .0)
 
 audit-tree-mark-at-requires : (t : ℕ) → audit-tree-lts.Need-mark-at-requires (claims t) (audit-tree-at t) audit-tree.Post
 audit-tree-mark-at-requires t c κs = omega (arith, c .before .before .before .before .before .before .pre .1)
 
 audit-tree-returns-2 : (t : ℕ) → audit-tree-lts.Need-returns-2 (claims t) (audit-tree-at t) audit-tree.Post
-audit-tree-returns-2 t c u f = omega (arith, inner-out _ _ _ _ _ _ _ _ (seen t (c .before .before .before)) u f .1, c .before .mark-at .ensures)
+audit-tree-returns-2 t c u f = omega (arith, inner-out ipv4 _ _ _ _ _ _ _ _ (seen t (c .before .before .before)) u f .1, c .before .mark-at .ensures)
 
 audit-tree-returns-3 : (t : ℕ) → audit-tree-lts.Need-returns-3 (claims t) (audit-tree-at t) audit-tree.Post
-audit-tree-returns-3 t c u f = omega (arith, inner-out _ _ _ _ _ _ _ _ (seen t (c .before .before .before .before)) u f .2, c .before .before .mark-at .ensures)
+audit-tree-returns-3 t c u f = omega (arith, inner-out ipv4 _ _ _ _ _ _ _ _ (seen t (c .before .before .before .before)) u f .2, c .before .before .mark-at .ensures)
 
 audit-tree-left-at-requires : (t : ℕ) → audit-tree-lts.Need-left-at-requires (claims t) (audit-tree-at t) audit-tree.Post
 audit-tree-left-at-requires t c κs = omega (arith, c .before .before .before .before .before .before .before .before .before .pre .1)
@@ -91,15 +91,15 @@ audit-tree-enum-told-2 t c = search needs
 
 -- the same, with what was read of its mark and its left side
 seen-left : (t : ℕ) (c : audit-tree-lts.After-left-at (claims t) (audit-tree-at t) audit-tree.Post)
-    → Seen (c .before .before .before .before .before .before .before .before .before .before .args .capacity) (c .before .before .before .before .before .before .before .before .before .before .args .pool .now) (c .before .before .before .before .before .before .before .before .before .before .args .link) (c .before .before .before .before .before .before .place2 .given .0 .0 .0) (c .before .before .before .mark-at .result) (c .left-at .result)
-    (rightAt (c .before .before .before .before .before .before .before .before .before .before .args .capacity) (c .before .before .before .before .before .before .before .before .before .before .args .pool .now) (c .before .before .before .before .before .before .place2 .given .0 .0 .0))
+    → Seen ipv4 (c .before .before .before .before .before .before .before .before .before .before .args .capacity) (c .before .before .before .before .before .before .before .before .before .before .args .pool .now) (c .before .before .before .before .before .before .before .before .before .before .args .link) (c .before .before .before .before .before .before .place2 .given .0 .0 .0) (c .before .before .before .mark-at .result) (c .left-at .result)
+    (rightAt ipv4 (c .before .before .before .before .before .before .before .before .before .before .args .capacity) (c .before .before .before .before .before .before .before .before .before .before .args .pool .now) (c .before .before .before .before .before .before .place2 .given .0 .0 .0))
 seen-left t c = record { linked = seen t (c .before .before .before .before .before) .linked; markThere = c .before .before .before .mark-at .ensures; leftThere = c .left-at .ensures; rightThere = refl }
 
 audit-tree-returns-4 : (t : ℕ) → audit-tree-lts.Need-returns-4 (claims t) (audit-tree-at t) audit-tree.Post
 audit-tree-returns-4 t c =
     let a = c .before .before .before .before .before .before .before .before .before .before .before .before .before .args in
-    left-bad _ _ _ _ _ _ _ _ (seen-left t (c .before .before .before))
-    (subst (TreeSays (a .capacity) (a .pool .now) (c .before .before .before .left-at .result) (c .before .before .before .before .before .before .mark-at .result)) (c .enum-told2 .given .1) (c .before .before .audit-tree .ensures))
+    left-bad ipv4 _ _ _ _ _ _ _ _ (seen-left t (c .before .before .before))
+    (subst (TreeSays ipv4 (a .capacity) (a .pool .now) (c .before .before .before .left-at .result) (c .before .before .before .before .before .before .mark-at .result)) (c .enum-told2 .given .1) (c .before .before .audit-tree .ensures))
 
 audit-tree-right-at-requires : (t : ℕ) → audit-tree-lts.Need-right-at-requires (claims t) (audit-tree-at t) audit-tree.Post
 audit-tree-right-at-requires t c κs = omega (arith, c .before .before .before .before .before .before .before .before .before .before .before .before .before .before .pre .1)
@@ -115,50 +115,50 @@ audit-tree-enum-told-3 t c = search needs
 
 -- and with its right side
 seen-right : (t : ℕ) (c : audit-tree-lts.After-right-at (claims t) (audit-tree-at t) audit-tree.Post)
-    → Seen (c .before .before .before .before .before .before .before .before .before .before .before .before .before .before .before .args .capacity) (c .before .before .before .before .before .before .before .before .before .before .before .before .before .before .before .args .pool .now) (c .before .before .before .before .before .before .before .before .before .before .before .before .before .before .before .args .link) (c .before .before .before .before .before .before .before .before .before .before .before .place2 .given .0 .0 .0) (c .before .before .before .before .before .before .before .before .mark-at .result) (c .before .before .before .before .before .left-at .result) (c .right-at .result)
+    → Seen ipv4 (c .before .before .before .before .before .before .before .before .before .before .before .before .before .before .before .args .capacity) (c .before .before .before .before .before .before .before .before .before .before .before .before .before .before .before .args .pool .now) (c .before .before .before .before .before .before .before .before .before .before .before .before .before .before .before .args .link) (c .before .before .before .before .before .before .before .before .before .before .before .place2 .given .0 .0 .0) (c .before .before .before .before .before .before .before .before .mark-at .result) (c .before .before .before .before .before .left-at .result) (c .right-at .result)
 seen-right t c = record { linked = seen t (c .before .before .before .before .before .before .before .before .before .before) .linked; markThere = c .before .before .before .before .before .before .before .before .mark-at .ensures; leftThere = c .before .before .before .before .before .left-at .ensures; rightThere = c .right-at .ensures }
 
 audit-tree-returns-5 : (t : ℕ) → audit-tree-lts.Need-returns-5 (claims t) (audit-tree-at t) audit-tree.Post
 audit-tree-returns-5 t c =
     let a = c .before .before .before .before .before .before .before .before .before .before .before .before .before .before .before .before .before .before .args in
-    right-bad _ _ _ _ _ _ _ _ (seen-right t (c .before .before .before))
-    (subst (TreeSays (a .capacity) (a .pool .now) (c .before .before .before .right-at .result) (c .before .before .before .before .before .before .before .before .before .before .before .mark-at .result)) (c .enum-told3 .given .1) (c .before .before .audit-tree2 .ensures))
+    right-bad ipv4 _ _ _ _ _ _ _ _ (seen-right t (c .before .before .before))
+    (subst (TreeSays ipv4 (a .capacity) (a .pool .now) (c .before .before .before .right-at .result) (c .before .before .before .before .before .before .before .before .before .before .before .mark-at .result)) (c .enum-told3 .given .1) (c .before .before .audit-tree2 .ensures))
 
 -- what is known of the two sides
 left-says : (t : ℕ) (c : audit-tree-lts.After-known-told4 (claims t) (audit-tree-at t) audit-tree.Post)
-    → TreeSays (c .before .before .before .before .before .before .before .before .before .before .before .before .before .before .before .before .before .before .before .args .capacity) (c .before .before .before .before .before .before .before .before .before .before .before .before .before .before .before .before .before .before .before .args .pool .now) (c .before .before .before .before .before .before .before .before .before .left-at .result) (c .before .before .before .before .before .before .before .before .before .before .before .before .mark-at .result) (TreeAudit.Fine (c .before .before .before .before .before .before .left .given .0 .0))
+    → TreeSays ipv4 (c .before .before .before .before .before .before .before .before .before .before .before .before .before .before .before .before .before .before .before .args .capacity) (c .before .before .before .before .before .before .before .before .before .before .before .before .before .before .before .before .before .before .before .args .pool .now) (c .before .before .before .before .before .before .before .before .before .left-at .result) (c .before .before .before .before .before .before .before .before .before .before .before .before .mark-at .result) (TreeAudit.Fine (c .before .before .before .before .before .before .left .given .0 .0))
 left-says t c =
-    subst (TreeSays (c .before .before .before .before .before .before .before .before .before .before .before .before .before .before .before .before .before .before .before .args .capacity) (c .before .before .before .before .before .before .before .before .before .before .before .before .before .before .before .before .before .before .before .args .pool .now) (c .before .before .before .before .before .before .before .before .before .left-at .result) (c .before .before .before .before .before .before .before .before .before .before .before .before .mark-at .result)) (c .before .before .before .before .before .before .left .given .1) (c .before .before .before .before .before .before .before .before .audit-tree .ensures)
+    subst (TreeSays ipv4 (c .before .before .before .before .before .before .before .before .before .before .before .before .before .before .before .before .before .before .before .args .capacity) (c .before .before .before .before .before .before .before .before .before .before .before .before .before .before .before .before .before .before .before .args .pool .now) (c .before .before .before .before .before .before .before .before .before .left-at .result) (c .before .before .before .before .before .before .before .before .before .before .before .before .mark-at .result)) (c .before .before .before .before .before .before .left .given .1) (c .before .before .before .before .before .before .before .before .audit-tree .ensures)
 
 right-says : (t : ℕ) (c : audit-tree-lts.After-known-told4 (claims t) (audit-tree-at t) audit-tree.Post)
-    → TreeSays (c .before .before .before .before .before .before .before .before .before .before .before .before .before .before .before .before .before .before .before .args .capacity) (c .before .before .before .before .before .before .before .before .before .before .before .before .before .before .before .before .before .before .before .args .pool .now) (c .before .before .before .before .right-at .result) (c .before .before .before .before .before .before .before .before .before .before .before .before .mark-at .result) (TreeAudit.Fine (c .before .right .given .0 .0))
+    → TreeSays ipv4 (c .before .before .before .before .before .before .before .before .before .before .before .before .before .before .before .before .before .before .before .args .capacity) (c .before .before .before .before .before .before .before .before .before .before .before .before .before .before .before .before .before .before .before .args .pool .now) (c .before .before .before .before .right-at .result) (c .before .before .before .before .before .before .before .before .before .before .before .before .mark-at .result) (TreeAudit.Fine (c .before .right .given .0 .0))
 right-says t c =
-    subst (TreeSays (c .before .before .before .before .before .before .before .before .before .before .before .before .before .before .before .before .before .before .before .args .capacity) (c .before .before .before .before .before .before .before .before .before .before .before .before .before .before .before .before .before .before .before .args .pool .now) (c .before .before .before .before .right-at .result) (c .before .before .before .before .before .before .before .before .before .before .before .before .mark-at .result)) (c .before .right .given .1) (c .before .before .before .audit-tree2 .ensures)
+    subst (TreeSays ipv4 (c .before .before .before .before .before .before .before .before .before .before .before .before .before .before .before .before .before .before .before .args .capacity) (c .before .before .before .before .before .before .before .before .before .before .before .before .before .before .before .before .before .before .before .args .pool .now) (c .before .before .before .before .right-at .result) (c .before .before .before .before .before .before .before .before .before .before .before .before .mark-at .result)) (c .before .right .given .1) (c .before .before .before .audit-tree2 .ensures)
 
 audit-tree-join-requires : (t : ℕ) → audit-tree-lts.Need-join-requires (claims t) (audit-tree-at t) audit-tree.Post
 audit-tree-join-requires t c κs =
-    let l = left-says t c .3 in
-    let r = right-says t c .3 in
-    let room : 2 ^ (38 - c .before .before .before .before .before .before .before .before .before .before .before .before .mark-at .result) ≤ 2 ^ 38 = pow-le-pow-right {n = 2} (omega arith) {i = 38 - c .before .before .before .before .before .before .before .before .before .before .before .before .mark-at .result} {j = 38} (omega arith) in (
+    let (u, f, sl, k) = left-says t c in
+    let (v, g, sr, m) = right-says t c in
+    let fit = c .before .before .before .before .before .before .before .before .before .before .before .before .before .before .before .before .before .before .before .pre .1 .0 .0 in (
       c .before .before .before .before .before .before .before .before .before .before .if3 .left,
       (
-        (omega (arith, room, l .fewRoutes), omega (arith, room, r .fewRoutes)),
-        (omega (arith, room, l .fewInners), omega (arith, room, r .fewInners)),
+        (omega (arith, fit, few-routes ipv4 _ _ _ _ _ _ u f k), omega (arith, fit, few-routes ipv4 _ _ _ _ _ _ v g m)),
+        (omega (arith, fit, few-inners ipv4 _ _ _ _ _ _ u f k), omega (arith, fit, few-inners ipv4 _ _ _ _ _ _ v g m)),
       ),
     )
 
 audit-tree-returns-6 : (t : ℕ) → audit-tree-lts.Need-returns-6 (claims t) (audit-tree-at t) audit-tree.Post
-audit-tree-returns-6 t c u f = nothing-bad _ _ _ _ u (nothing-from _ (sym (c .before .before .link-from .ensures) ∙ c .enum-told .given .1)) f
+audit-tree-returns-6 t c u f = nothing-bad ipv4 _ _ _ _ u (nothing-from _ (sym (c .before .before .link-from .ensures) ∙ c .enum-told .given .1)) f
 
 audit-tree-returns-7 : (t : ℕ) → audit-tree-lts.Need-returns-7 (claims t) (audit-tree-at t) audit-tree.Post
 audit-tree-returns-7 t c =
     let a = c .before .before .before .before .before .before .args in
     let link = route-from (a .link) (c .before .before .place .given .0 .0) (sym (c .before .before .before .before .link-from .ensures) ∙ c .before .before .place .given .1) in
-    subst (λ (x : ℕ). TreeSays (a .capacity) (a .pool .now) x (a .low) (c .audit-leaf .result)) (sym link) (c .audit-leaf .ensures (a .low) (c .before .before .before .before .before .before .pre .1 .1))
+    subst (λ (x : ℕ). TreeSays ipv4 (a .capacity) (a .pool .now) x (a .low) (c .audit-leaf .result)) (sym link) (c .audit-leaf .ensures (a .low))
 
 audit-tree-returns-8 : (t : ℕ) → audit-tree-lts.Need-returns-8 (claims t) (audit-tree-at t) audit-tree.Post
 audit-tree-returns-8 t c =
-    joined _ _ _ _ _ _ _ _ (seen-right t (c .before .before .before .before .before)) _ _ (left-says t (c .before)) (right-says t (c .before)) (c .before .before .before .before .before .before .before .before .before .before .before .before .before .before .if1 .left)
+    joined ipv4 _ _ _ _ _ _ _ _ (seen-right t (c .before .before .before .before .before)) _ _ (left-says t (c .before)) (right-says t (c .before)) (c .before .before .before .before .before .before .before .before .before .before .before .before .before .before .if1 .left)
     (c .before .before .before .before .before .before .before .before .before .before .before .before .if2 .left) (c .before .before .before .before .before .before .before .before .before .before .before .if3 .left) (c .join .result) (c .join .ensures)
 
 pub +audit-tree-spec : {M : Type 1} → statement M

@@ -1,5 +1,6 @@
 use mathlib.Core.Path.{subst}
 use borrow.Author.Needs.{needs}
+use Rattle.pool.specs.Ipv4.{ipv4}
 use Rattle.pool.specs.Link.{toRoute}
 use Rattle.shape.specs.Chain.{ChainSays}
 use Rattle.shape.specs.declared.chain.ChainAudit.{ChainAudit}
@@ -17,16 +18,16 @@ enum-told : tie.Need-enum-told
 enum-told c = search needs
 
 returns : tie.Need-returns
-returns c low h =
+returns c low =
     let a = c .before .before .before .before .before .args in
-    let says : ChainSays (a .capacity) (a .pool .now) (a .place .0) (ChainAudit.Fine (c .before .address .given .0 .0) (c .before .address .given .0 .1 .0)) =
-    subst (ChainSays (a .capacity) (a .pool .now) (a .place .0)) (c .before .address .given .1) (c .before .before .before .audit-chain .ensures) in
-    leaf-fine (a .capacity) (a .pool .now) (toRoute (a .place .0)) low _ _ (says .1 .0) h (says .0) (says .1 .1) (says .1 .2)
+    let says : ChainSays ipv4 (a .capacity) (a .pool .now) (a .place .0) (ChainAudit.Fine (c .before .address .given .0 .0) (c .before .address .given .0 .1 .0)) =
+    subst (ChainSays ipv4 (a .capacity) (a .pool .now) (a .place .0)) (c .before .address .given .1) (c .before .before .before .audit-chain .ensures) in
+    leaf-fine ipv4 (a .capacity) (a .pool .now) (toRoute (a .place .0)) low _ _ (says .0) (says .1) (says .2)
 
 returns-2 : tie.Need-returns-2
-returns-2 c low h t f =
+returns-2 c low t f =
     let a = c .before .before .before .before .args in
-    leaf-bad (a .capacity) (a .pool .now) (a .place .0) low t (subst (ChainSays (a .capacity) (a .pool .now) (a .place .0)) (c .enum-told .given .1) (c .before .before .audit-chain .ensures)) f
+    leaf-bad ipv4 (a .capacity) (a .pool .now) (a .place .0) low t (subst (ChainSays ipv4 (a .capacity) (a .pool .now) (a .place .0)) (c .enum-told .given .1) (c .before .before .audit-chain .ensures)) f
 
 pub audit-leaf-spec : {M : Type 1} → statement M
 audit-leaf-spec =

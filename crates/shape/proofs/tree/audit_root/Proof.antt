@@ -1,6 +1,7 @@
 use mathlib.Core.Path.{refl, subst}
 use borrow.Author.Needs.{needs}
 use Rattle.pool.specs.Layout.{rootIn}
+use Rattle.pool.specs.Ipv4.{ipv4}
 use Rattle.shape.specs.Tree.{TreeSays}
 use Rattle.shape.proofs.Grown.{root-none, root-bad, root-fine}
 use Rattle.shape.proofs.tree.audit_root.Statement.{statement}
@@ -10,7 +11,7 @@ shared-slice-read-root : tie.Need-shared-slice-read-root
 shared-slice-read-root c = search needs
 
 returns : tie.Need-returns
-returns c = root-none _ _ _ refl (c .if1 .taken)
+returns c = root-none ipv4 _ _ _ refl (c .if1 .taken)
 
 audit-tree-requires : tie.Need-audit-tree-requires
 audit-tree-requires c κs = search needs
@@ -24,12 +25,12 @@ enum-told c = search needs
 returns-2 : tie.Need-returns-2
 returns-2 c =
     let a = c .before .before .before .before .before .before .args in
-    root-bad _ _ _ refl (c .before .before .before .if1 .left) (subst (TreeSays (a .capacity) (a .pool .now) (rootIn (a .pool .now)) 0) (c .enum-told .given .1) (c .before .before .audit-tree .ensures))
+    root-bad ipv4 _ _ _ refl (c .before .before .before .if1 .left) (subst (TreeSays ipv4 (a .capacity) (a .pool .now) (rootIn (a .pool .now)) 0) (c .enum-told .given .1) (c .before .before .audit-tree .ensures))
 
 returns-3 : tie.Need-returns-3
 returns-3 c =
     let a = c .before .before .before .before .before .before .before .args in
-    root-fine _ _ _ _ _ _ _ refl (subst (TreeSays (a .capacity) (a .pool .now) (rootIn (a .pool .now)) 0) (c .before .span .given .1) (c .before .before .before .audit-tree .ensures))
+    root-fine ipv4 _ _ _ _ _ _ _ refl (subst (TreeSays ipv4 (a .capacity) (a .pool .now) (rootIn (a .pool .now)) 0) (c .before .span .given .1) (c .before .before .before .audit-tree .ensures))
 
 pub audit-root-spec : {M : Type 1} → statement M
 audit-root-spec =

@@ -7,6 +7,7 @@ use borrow.Author.Needs.{needs}
 use lib.ListN.{length}
 use Rattle.model.specs.Routes.{Route}
 use Rattle.model.specs.Ipv4.{Hop}
+use Rattle.pool.specs.Ipv4.{ipv4}
 use Rattle.standing.specs.Changes.{Tabled, TakenSays}
 use Rattle.standing.specs.declared.changes.Taken.{Taken}
 use Rattle.standing.proofs.Turning.{Standing, standing-start, standing-step, standing-stop, standing-end}
@@ -15,13 +16,13 @@ use Rattle.standing.proofs.changes.can_take_back.Tie as tie
 
 abbrev Inv-loop : tie.InvT-loop
 Inv-loop pool capacity standing routes held₀ left₀ held left =
-    (left ≤ standing) × (held ≤ capacity) × ((l : List (Route Hop)) → Tabled capacity pool l → routes ≡ length l → Standing capacity pool standing left held l)
+    (left ≤ standing) × (held ≤ capacity) × ((l : List (Route Hop)) → Tabled ipv4 capacity pool l → routes ≡ length l → Standing ipv4 capacity pool standing left held l)
 
 abbrev μ-loop : tie.MeasureT-loop
 μ-loop pool capacity standing routes held₀ left₀ held left = left
 
 loop-holds : tie.Need-loop-holds Inv-loop μ-loop
-loop-holds c = (omega arith, omega arith, λ l t e. standing-start _ _ _ _ l e)
+loop-holds c = (omega arith, omega arith, λ l t e. standing-start ipv4 _ _ _ _ l e)
 
 sub-change : tie.Need-sub-change Inv-loop μ-loop
 sub-change c = omega arith
@@ -38,15 +39,15 @@ enum-told c = search needs
 returns : tie.Need-returns Inv-loop μ-loop
 returns c l t e =
     let a = c .before .before .before .before .before .before .args in
-    let bad = subst (TakenSays (a .capacity) (a .pool .now) (a .standing) (c .before .before .before .before .loop .left - 1) (c .before .before .before .before .loop .held)) (c .enum-told .given .1) (c .before .before .take-back .ensures) in
+    let bad = subst (TakenSays ipv4 (a .capacity) (a .pool .now) (a .standing) (c .before .before .before .before .loop .left - 1) (c .before .before .before .before .loop .held)) (c .enum-told .given .1) (c .before .before .take-back .ensures) in
     let one : c .before .before .before .before .loop .left ≡ suc (c .before .before .before .before .loop .left - 1) = omega arith in
-    let s = subst (λ (m : ℕ). Standing (a .capacity) (a .pool .now) (a .standing) m (c .before .before .before .before .loop .held) l) one (c .before .before .before .before .loop .inv .2 l t e) in
-    (λ z. absurd (false≢true z), λ u. absurd (standing-stop _ _ _ _ _ l t bad s u))
+    let s = subst (λ (m : ℕ). Standing ipv4 (a .capacity) (a .pool .now) (a .standing) m (c .before .before .before .before .loop .held) l) one (c .before .before .before .before .loop .inv .2 l t e) in
+    (λ z. absurd (false≢true z), λ u. absurd (standing-stop ipv4 _ _ _ _ _ l t bad s u))
 
 -- so many are left when one more is taken back
 taken : (c : tie.After-known-told Inv-loop μ-loop)
-    → TakenSays (c .before .before .before .before .before .before .before .args .capacity) (c .before .before .before .before .before .before .before .args .pool .now) (c .before .before .before .before .before .before .before .args .standing) (c .before .before .before .before .before .loop .left - 1) (c .before .before .before .before .before .loop .held) (Taken.Held (c .before .now-held .given .0 .0))
-taken c = subst (TakenSays (c .before .before .before .before .before .before .before .args .capacity) (c .before .before .before .before .before .before .before .args .pool .now) (c .before .before .before .before .before .before .before .args .standing) (c .before .before .before .before .before .loop .left - 1) (c .before .before .before .before .before .loop .held)) (c .before .now-held .given .1) (c .before .before .before .take-back .ensures)
+    → TakenSays ipv4 (c .before .before .before .before .before .before .before .args .capacity) (c .before .before .before .before .before .before .before .args .pool .now) (c .before .before .before .before .before .before .before .args .standing) (c .before .before .before .before .before .loop .left - 1) (c .before .before .before .before .before .loop .held) (Taken.Held (c .before .now-held .given .0 .0))
+taken c = subst (TakenSays ipv4 (c .before .before .before .before .before .before .before .args .capacity) (c .before .before .before .before .before .before .before .args .pool .now) (c .before .before .before .before .before .before .before .args .standing) (c .before .before .before .before .before .loop .left - 1) (c .before .before .before .before .before .loop .held)) (c .before .now-held .given .1) (c .before .before .before .take-back .ensures)
 
 loop-less : tie.Need-loop-less Inv-loop μ-loop
 loop-less c = omega arith
@@ -57,15 +58,15 @@ loop-again c =
     let one : c .before .before .before .before .before .loop .left ≡ suc (c .before .before .before .before .before .loop .left - 1) = omega arith in (
       omega arith,
       taken c .0,
-      λ l t e. standing-step _ _ _ _ _ _ l (omega arith) t (taken c) (subst (λ (m : ℕ). Standing (a .capacity) (a .pool .now) (a .standing) m (c .before .before .before .before .before .loop .held) l) one (c .before .before .before .before .before .loop .inv .2 l t e)),
+      λ l t e. standing-step ipv4 _ _ _ _ _ _ l (omega arith) t (taken c) (subst (λ (m : ℕ). Standing ipv4 (a .capacity) (a .pool .now) (a .standing) m (c .before .before .before .before .before .loop .held) l) one (c .before .before .before .before .before .loop .inv .2 l t e)),
     )
 
 returns-2 : tie.Need-returns-2 Inv-loop μ-loop
 returns-2 c l t e =
     let a = c .before .before .before .args in
     let none : c .before .loop .left ≡ 0 = omega arith in
-    let s = subst (λ (m : ℕ). Standing (a .capacity) (a .pool .now) (a .standing) m (c .before .loop .held) l) none (c .before .loop .inv .2 l t e) in
-    (λ z. standing-end _ _ _ _ l s, λ u. refl)
+    let s = subst (λ (m : ℕ). Standing ipv4 (a .capacity) (a .pool .now) (a .standing) m (c .before .loop .held) l) none (c .before .loop .inv .2 l t e) in
+    (λ z. standing-end ipv4 _ _ _ _ l s, λ u. refl)
 
 pub can-take-back-spec : {M : Type 1} → statement M
 can-take-back-spec =

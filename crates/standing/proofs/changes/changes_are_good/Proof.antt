@@ -4,6 +4,7 @@ use native.Mathlib.Omega.{arith}
 use borrow.Author.Needs.{needs}
 use borrow.Author.Tests.{not-true, not-false}
 use Rattle.model.proofs.Tests.{not-both}
+use Rattle.pool.specs.Ipv4.{ipv4}
 use Rattle.standing.specs.Changes.{ChangesFine}
 use Rattle.shape.proofs.Hanging.{refused}
 use Rattle.standing.proofs.Recording.{changes-more}
@@ -11,7 +12,7 @@ use Rattle.standing.proofs.changes.changes_are_good.Statement.{statemen
 use Rattle.standing.proofs.changes.changes_are_good.Tie as tie
 
 abbrev Inv-loop : tie.InvT-loop
-Inv-loop pool capacity standing k₀ k = (k ≤ standing) × ChangesFine capacity pool k
+Inv-loop pool capacity standing k₀ k = (k ≤ standing) × ChangesFine ipv4 capacity pool k
 
 abbrev μ-loop : tie.MeasureT-loop
 μ-loop pool capacity standing k₀ k = standing - k
@@ -32,12 +33,12 @@ loop-less : tie.Need-loop-less Inv-loop μ-loop
 loop-less c = omega arith
 
 loop-again : tie.Need-loop-again Inv-loop μ-loop
-loop-again c = (omega arith, changes-more _ _ _ (c .before .before .before .loop .inv .1) (c .before .change-is-good .ensures .0 (not-false _ (c .if1 .left))))
+loop-again c = (omega arith, changes-more ipv4 _ _ _ (c .before .before .before .loop .inv .1) (c .before .change-is-good .ensures .0 (not-false _ (c .if1 .left))))
 
 returns-2 : tie.Need-returns-2 Inv-loop μ-loop
 returns-2 c =
     let all : c .before .loop .k ≡ c .before .before .before .args .standing = omega arith in
-    (λ t. subst (ChangesFine (c .before .before .before .args .capacity) (c .before .before .before .args .pool .now)) all (c .before .loop .inv .1), λ f. refl)
+    (λ t. subst (ChangesFine ipv4 (c .before .before .before .args .capacity) (c .before .before .before .args .pool .now)) all (c .before .loop .inv .1), λ f. refl)
 
 pub changes-are-good-spec : {M : Type 1} → statement M
 changes-are-good-spec =

@@ -13,10 +13,10 @@ shared-slice-read-kind : tie.Need-shared-slice-read-kind
 shared-slice-read-kind c = search needs
 
 returns : tie.Need-returns
-returns c = refused (λ f. omega (arith, f .kind))
+returns c p = refused (λ f. omega (arith, f .kind))
 
 returns-2 : tie.Need-returns-2
-returns-2 c = refused (λ f. omega (arith, f .kind))
+returns-2 c p = refused (λ f. omega (arith, f .kind))
 
 hop-at-requires : tie.Need-hop-at-requires
 hop-at-requires c κs = search needs
@@ -25,7 +25,7 @@ is-good-requires : tie.Need-is-good-requires
 is-good-requires c κs = search needs
 
 returns-3 : tie.Need-returns-3
-returns-3 c =
+returns-3 c p =
     let g = c .is-good .ensures ∙ ap goodHop (c .before .hop-at .ensures) in
     (λ t. record { kind = (omega arith, omega arith); good = sym g ∙ t }, λ f. g ∙ f .good)
 

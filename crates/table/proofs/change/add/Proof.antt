@@ -2,6 +2,9 @@ use mathlib.Core.Path.{refl, sym, subst, _∙_}
 use borrow.Author.Needs.{needs}
 use Rattle.model.specs.Call.{add}
 use Rattle.route.specs.Means.{routeOf}
+use Rattle.pool.specs.Ipv4.{ipv4}
+use Rattle.pool.proofs.Ipv4.{laid4}
+use Rattle.promise.specs.Trees.{tree}
 use Rattle.ruling.specs.May.{MayRight}
 use Rattle.table.proofs.Changes.{goes-small, goes-fit, goes-in, goes-accepted, goes, refused-by}
 use Rattle.table.proofs.change.add.Statement.{statement}
@@ -14,16 +17,16 @@ enum-known-capacity : tie.Need-enum-known-capacity
 enum-known-capacity c = search needs
 
 size-of-requires : tie.Need-size-of-requires
-size-of-requires c κs = goes-small (add (routeOf (c .before .before .before .before .before .before .args .route))) (c .before .before .before .before .before .before .args .pool .now) _ (subst (MayRight (add (routeOf (c .before .before .before .before .before .before .args .route))) (c .before .before .before .before .before .before .args .pool .now)) (c .before .capacity .given .1) (c .before .before .before .may-add .ensures))
+size-of-requires c κs = goes-small ipv4 laid4 (add (routeOf (c .before .before .before .before .before .before .args .route))) (c .before .before .before .before .before .before .args .pool .now) _ (subst (MayRight (tree ipv4) (add (routeOf (c .before .before .before .before .before .before .args .route))) (c .before .before .before .before .before .before .args .pool .now)) (c .before .capacity .given .1) (c .before .before .before .may-add .ensures))
 
 slice-relend-prefix-add : tie.Need-slice-relend-prefix-add
-slice-relend-prefix-add c = goes-in (add (routeOf (c .before .before .before .before .before .before .before .args .route))) (c .before .before .before .before .before .before .before .args .pool .now) _ _ (subst (MayRight (add (routeOf (c .before .before .before .before .before .before .before .args .route))) (c .before .before .before .before .before .before .before .args .pool .now)) (c .before .before .capacity .given .1) (c .before .before .before .before .may-add .ensures)) (c .size-of .ensures)
+slice-relend-prefix-add c = goes-in ipv4 laid4 (add (routeOf (c .before .before .before .before .before .before .before .args .route))) (c .before .before .before .before .before .before .before .args .pool .now) _ _ (subst (MayRight (tree ipv4) (add (routeOf (c .before .before .before .before .before .before .before .args .route))) (c .before .before .before .before .before .before .before .args .pool .now)) (c .before .before .capacity .given .1) (c .before .before .before .before .may-add .ensures)) (c .size-of .ensures)
 
 slice-aggregate-add : tie.Need-slice-aggregate-add
-slice-aggregate-add c = c .before .size-of .ensures ∙ sym (goes-fit (add (routeOf (c .before .before .before .before .before .before .before .before .args .route))) (c .before .before .before .before .before .before .before .before .args .pool .now) _ _ (subst (MayRight (add (routeOf (c .before .before .before .before .before .before .before .before .args .route))) (c .before .before .before .before .before .before .before .before .args .pool .now)) (c .before .before .before .capacity .given .1) (c .before .before .before .before .before .may-add .ensures)) (c .before .size-of .ensures) .1)
+slice-aggregate-add c = c .before .size-of .ensures ∙ sym (goes-fit ipv4 laid4 (add (routeOf (c .before .before .before .before .before .before .before .before .args .route))) (c .before .before .before .before .before .before .before .before .args .pool .now) _ _ (subst (MayRight (tree ipv4) (add (routeOf (c .before .before .before .before .before .before .before .before .args .route))) (c .before .before .before .before .before .before .before .before .args .pool .now)) (c .before .before .before .capacity .given .1) (c .before .before .before .before .before .may-add .ensures)) (c .before .size-of .ensures) .1)
 
 add-requires : tie.Need-add-requires
-add-requires c κs = (goes-fit (add (routeOf (c .before .before .before .before .before .before .before .before .args .route))) (c .before .before .before .before .before .before .before .before .args .pool .now) _ _ (subst (MayRight (add (routeOf (c .before .before .before .before .before .before .before .before .args .route))) (c .before .before .before .before .before .before .before .before .args .pool .now)) (c .before .before .before .capacity .given .1) (c .before .before .before .before .before .may-add .ensures)) (c .before .size-of .ensures), goes-accepted (add (routeOf (c .before .before .before .before .before .before .before .before .args .route))) (c .before .before .before .before .before .before .before .before .args .pool .now) _ _ (subst (MayRight (add (routeOf (c .before .before .before .before .before .before .before .before .args .route))) (c .before .before .before .before .before .before .before .before .args .pool .now)) (c .before .before .before .capacity .given .1) (c .before .before .before .before .before .may-add .ensures)) (c .before .size-of .ensures))
+add-requires c κs = (goes-fit ipv4 laid4 (add (routeOf (c .before .before .before .before .before .before .before .before .args .route))) (c .before .before .before .before .before .before .before .before .args .pool .now) _ _ (subst (MayRight (tree ipv4) (add (routeOf (c .before .before .before .before .before .before .before .before .args .route))) (c .before .before .before .before .before .before .before .before .args .pool .now)) (c .before .before .before .capacity .given .1) (c .before .before .before .before .before .may-add .ensures)) (c .before .size-of .ensures), goes-accepted ipv4 laid4 (add (routeOf (c .before .before .before .before .before .before .before .before .args .route))) (c .before .before .before .before .before .before .before .before .args .pool .now) _ _ (subst (MayRight (tree ipv4) (add (routeOf (c .before .before .before .before .before .before .before .before .args .route))) (c .before .before .before .before .before .before .before .before .args .pool .now)) (c .before .before .before .capacity .given .1) (c .before .before .before .before .before .may-add .ensures)) (c .before .size-of .ensures))
 
 enum-known-refusal : tie.Need-enum-known-refusal
 enum-known-refusal c = search needs
@@ -32,13 +35,13 @@ same-length : tie.Need-same-length
 same-length c = search needs
 
 returns : tie.Need-returns
-returns c = goes (add (routeOf (c .before .before .before .before .before .before .before .before .before .before .before .args .route))) (c .before .before .before .before .before .before .before .before .before .before .before .args .pool .now) _ _ (subst (MayRight (add (routeOf (c .before .before .before .before .before .before .before .before .before .before .before .args .route))) (c .before .before .before .before .before .before .before .before .before .before .before .args .pool .now)) (c .before .before .before .before .before .before .capacity .given .1) (c .before .before .before .before .before .before .before .before .may-add .ensures)) (c .before .before .before .before .size-of .ensures) (c .before .before .add .last .0) (search needs) refl (c .before .before .add .ensures)
+returns c = goes ipv4 laid4 (add (routeOf (c .before .before .before .before .before .before .before .before .before .before .before .args .route))) (c .before .before .before .before .before .before .before .before .before .before .before .args .pool .now) _ _ (subst (MayRight (tree ipv4) (add (routeOf (c .before .before .before .before .before .before .before .before .before .before .before .args .route))) (c .before .before .before .before .before .before .before .before .before .before .before .args .pool .now)) (c .before .before .before .before .before .before .capacity .given .1) (c .before .before .before .before .before .before .before .before .may-add .ensures)) (c .before .before .before .before .size-of .ensures) (c .before .before .add .last .0) (search needs) refl (c .before .before .add .ensures)
 
 same-length-2 : tie.Need-same-length-2
 same-length-2 c = search needs
 
 returns-2 : tie.Need-returns-2
-returns-2 c = refused-by (add (routeOf (c .before .before .before .before .before .before .args .route))) (c .before .before .before .before .before .before .args .pool .now) (c .before .refusal .given .0 .0) (subst (MayRight (add (routeOf (c .before .before .before .before .before .before .args .route))) (c .before .before .before .before .before .before .args .pool .now)) (c .before .refusal .given .1) (c .before .before .before .may-add .ensures))
+returns-2 c = refused-by (tree ipv4) (add (routeOf (c .before .before .before .before .before .before .args .route))) (c .before .before .before .before .before .before .args .pool .now) (c .before .refusal .given .0 .0) (subst (MayRight (tree ipv4) (add (routeOf (c .before .before .before .before .before .before .args .route))) (c .before .before .before .before .before .before .args .pool .now)) (c .before .refusal .given .1) (c .before .before .before .may-add .ensures))
 
 pub add-spec : {M : Type 1} → statement M
 add-spec =

@@ -1,6 +1,9 @@
 use mathlib.Core.Path.{refl, sym, subst, _∙_}
 use borrow.Author.Needs.{needs}
 use Rattle.model.specs.Call.{keep}
+use Rattle.pool.specs.Ipv4.{ipv4}
+use Rattle.pool.proofs.Ipv4.{laid4}
+use Rattle.promise.specs.Trees.{tree}
 use Rattle.ruling.specs.May.{MayRight}
 use Rattle.table.proofs.Changes.{goes-small, goes-fit, goes-in, goes-accepted, goes, refused-by}
 use Rattle.table.proofs.change.keep_trial.Statement.{statement}
@@ -13,16 +16,16 @@ enum-known-capacity : tie.Need-enum-known-capacity
 enum-known-capacity c = search needs
 
 size-of-requires : tie.Need-size-of-requires
-size-of-requires c κs = goes-small keep (c .before .before .before .before .before .before .args .pool .now) _ (subst (MayRight keep (c .before .before .before .before .before .before .args .pool .now)) (c .before .capacity .given .1) (c .before .before .before .may-end .ensures .0))
+size-of-requires c κs = goes-small ipv4 laid4 keep (c .before .before .before .before .before .before .args .pool .now) _ (subst (MayRight (tree ipv4) keep (c .before .before .before .before .before .before .args .pool .now)) (c .before .capacity .given .1) (c .before .before .before .may-end .ensures .0))
 
 slice-relend-prefix-keep : tie.Need-slice-relend-prefix-keep
-slice-relend-prefix-keep c = goes-in keep (c .before .before .before .before .before .before .before .args .pool .now) _ _ (subst (MayRight keep (c .before .before .before .before .before .before .before .args .pool .now)) (c .before .before .capacity .given .1) (c .before .before .before .before .may-end .ensures .0)) (c .size-of .ensures)
+slice-relend-prefix-keep c = goes-in ipv4 laid4 keep (c .before .before .before .before .before .before .before .args .pool .now) _ _ (subst (MayRight (tree ipv4) keep (c .before .before .before .before .before .before .before .args .pool .now)) (c .before .before .capacity .given .1) (c .before .before .before .before .may-end .ensures .0)) (c .size-of .ensures)
 
 slice-aggregate-keep : tie.Need-slice-aggregate-keep
-slice-aggregate-keep c = c .before .size-of .ensures ∙ sym (goes-fit keep (c .before .before .before .before .before .before .before .before .args .pool .now) _ _ (subst (MayRight keep (c .before .before .before .before .before .before .before .before .args .pool .now)) (c .before .before .before .capacity .given .1) (c .before .before .before .before .before .may-end .ensures .0)) (c .before .size-of .ensures) .1)
+slice-aggregate-keep c = c .before .size-of .ensures ∙ sym (goes-fit ipv4 laid4 keep (c .before .before .before .before .before .before .before .before .args .pool .now) _ _ (subst (MayRight (tree ipv4) keep (c .before .before .before .before .before .before .before .before .args .pool .now)) (c .before .before .before .capacity .given .1) (c .before .before .before .before .before .may-end .ensures .0)) (c .before .size-of .ensures) .1)
 
 keep-requires : tie.Need-keep-requires
-keep-requires c κs = (goes-fit keep (c .before .before .before .before .before .before .before .before .args .pool .now) _ _ (subst (MayRight keep (c .before .before .before .before .before .before .before .before .args .pool .now)) (c .before .before .before .capacity .given .1) (c .before .before .before .before .before .may-end .ensures .0)) (c .before .size-of .ensures), goes-accepted keep (c .before .before .before .before .before .before .before .before .args .pool .now) _ _ (subst (MayRight keep (c .before .before .before .before .before .before .before .before .args .pool .now)) (c .before .before .before .capacity .given .1) (c .before .before .before .before .before .may-end .ensures .0)) (c .before .size-of .ensures))
+keep-requires c κs = (goes-fit ipv4 laid4 keep (c .before .before .before .before .before .before .before .before .args .pool .now) _ _ (subst (MayRight (tree ipv4) keep (c .before .before .before .before .before .before .before .before .args .pool .now)) (c .before .before .before .capacity .given .1) (c .before .before .before .before .before .may-end .ensures .0)) (c .before .size-of .ensures), goes-accepted ipv4 laid4 keep (c .before .before .before .before .before .before .before .before .args .pool .now) _ _ (subst (MayRight (tree ipv4) keep (c .before .before .before .before .before .before .before .before .args .pool .now)) (c .before .before .before .capacity .given .1) (c .before .before .before .before .before .may-end .ensures .0)) (c .before .size-of .ensures))
 
 enum-known-refusal : tie.Need-enum-known-refusal
 enum-known-refusal c = search needs
@@ -31,13 +34,13 @@ same-length : tie.Need-same-length
 same-length c = search needs
 
 returns : tie.Need-returns
-returns c = goes keep (c .before .before .before .before .before .before .before .before .before .before .before .args .pool .now) _ _ (subst (MayRight keep (c .before .before .before .before .before .before .before .before .before .before .before .args .pool .now)) (c .before .before .before .before .before .before .capacity .given .1) (c .before .before .before .before .before .before .before .before .may-end .ensures .0)) (c .before .before .before .before .size-of .ensures) (c .before .before .keep .last .0) (search needs) refl (c .before .before .keep .ensures)
+returns c = goes ipv4 laid4 keep (c .before .before .before .before .before .before .before .before .before .before .before .args .pool .now) _ _ (subst (MayRight (tree ipv4) keep (c .before .before .before .before .before .before .before .before .before .before .before .args .pool .now)) (c .before .before .before .before .before .before .capacity .given .1) (c .before .before .before .before .before .before .before .before .may-end .ensures .0)) (c .before .before .before .before .size-of .ensures) (c .before .before .keep .last .0) (search needs) refl (c .before .before .keep .ensures)
 
 same-length-2 : tie.Need-same-length-2
 same-length-2 c = search needs
 
 returns-2 : tie.Need-returns-2
-returns-2 c = refused-by keep (c .before .before .before .before .before .before .args .pool .now) (c .before .refusal .given .0 .0) (subst (MayRight keep (c .before .before .before .before .before .before .args .pool .now)) (c .before .refusal .given .1) (c .before .before .before .may-end .ensures .0))
+returns-2 c = refused-by (tree ipv4) keep (c .before .before .before .before .before .before .args .pool .now) (c .before .refusal .given .0 .0) (subst (MayRight (tree ipv4) keep (c .before .before .before .before .before .before .args .pool .now)) (c .before .refusal .given .1) (c .before .before .before .may-end .ensures .0))
 
 pub keep-trial-spec : {M : Type 1} → statement M
 keep-trial-spec =

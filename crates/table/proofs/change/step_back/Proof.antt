@@ -1,6 +1,9 @@
 use mathlib.Core.Path.{refl, sym, subst, _∙_}
 use borrow.Author.Needs.{needs}
 use Rattle.model.specs.Call.{stepBack}
+use Rattle.pool.specs.Ipv4.{ipv4}
+use Rattle.pool.proofs.Ipv4.{laid4}
+use Rattle.promise.specs.Trees.{tree}
 use Rattle.ruling.specs.May.{MayRight}
 use Rattle.table.proofs.Changes.{goes-small, goes-fit, goes-in, goes-accepted, goes, refused-by}
 use Rattle.table.proofs.change.step_back.Statement.{statement}
@@ -13,16 +16,16 @@ enum-known-capacity : tie.Need-enum-known-capacity
 enum-known-capacity c = search needs
 
 size-of-requires : tie.Need-size-of-requires
-size-of-requires c κs = goes-small stepBack (c .before .before .before .before .before .before .args .pool .now) _ (subst (MayRight stepBack (c .before .before .before .before .before .before .args .pool .now)) (c .before .capacity .given .1) (c .before .before .before .may-step-back .ensures))
+size-of-requires c κs = goes-small ipv4 laid4 stepBack (c .before .before .before .before .before .before .args .pool .now) _ (subst (MayRight (tree ipv4) stepBack (c .before .before .before .before .before .before .args .pool .now)) (c .before .capacity .given .1) (c .before .before .before .may-step-back .ensures))
 
 slice-relend-prefix-step-back : tie.Need-slice-relend-prefix-step-back
-slice-relend-prefix-step-back c = goes-in stepBack (c .before .before .before .before .before .before .before .args .pool .now) _ _ (subst (MayRight stepBack (c .before .before .before .before .before .before .before .args .pool .now)) (c .before .before .capacity .given .1) (c .before .before .before .before .may-step-back .ensures)) (c .size-of .ensures)
+slice-relend-prefix-step-back c = goes-in ipv4 laid4 stepBack (c .before .before .before .before .before .before .before .args .pool .now) _ _ (subst (MayRight (tree ipv4) stepBack (c .before .before .before .before .before .before .before .args .pool .now)) (c .before .before .capacity .given .1) (c .before .before .before .before .may-step-back .ensures)) (c .size-of .ensures)
 
 slice-aggregate-step-back : tie.Need-slice-aggregate-step-back
-slice-aggregate-step-back c = c .before .size-of .ensures ∙ sym (goes-fit stepBack (c .before .before .before .before .before .before .before .before .args .pool .now) _ _ (subst (MayRight stepBack (c .before .before .before .before .before .before .before .before .args .pool .now)) (c .before .before .before .capacity .given .1) (c .before .before .before .before .before .may-step-back .ensures)) (c .before .size-of .ensures) .1)
+slice-aggregate-step-back c = c .before .size-of .ensures ∙ sym (goes-fit ipv4 laid4 stepBack (c .before .before .before .before .before .before .before .before .args .pool .now) _ _ (subst (MayRight (tree ipv4) stepBack (c .before .before .before .before .before .before .before .before .args .pool .now)) (c .before .before .before .capacity .given .1) (c .before .before .before .before .before .may-step-back .ensures)) (c .before .size-of .ensures) .1)
 
 step-back-requires : tie.Need-step-back-requires
-step-back-requires c κs = (goes-fit stepBack (c .before .before .before .before .before .before .before .before .args .pool .now) _ _ (subst (MayRight stepBack (c .before .before .before .before .before .before .before .before .args .pool .now)) (c .before .before .before .capacity .given .1) (c .before .before .before .before .before .may-step-back .ensures)) (c .before .size-of .ensures), goes-accepted stepBack (c .before .before .before .before .before .before .before .before .args .pool .now) _ _ (subst (MayRight stepBack (c .before .before .before .before .before .before .before .before .args .pool .now)) (c .before .before .before .capacity .given .1) (c .before .before .before .before .before .may-step-back .ensures)) (c .before .size-of .ensures))
+step-back-requires c κs = (goes-fit ipv4 laid4 stepBack (c .before .before .before .before .before .before .before .before .args .pool .now) _ _ (subst (MayRight (tree ipv4) stepBack (c .before .before .before .before .before .before .before .before .args .pool .now)) (c .before .before .before .capacity .given .1) (c .before .before .before .before .before .may-step-back .ensures)) (c .before .size-of .ensures), goes-accepted ipv4 laid4 stepBack (c .before .before .before .before .before .before .before .before .args .pool .now) _ _ (subst (MayRight (tree ipv4) stepBack (c .before .before .before .before .before .before .before .before .args .pool .now)) (c .before .before .before .capacity .given .1) (c .before .before .before .before .before .may-step-back .ensures)) (c .before .size-of .ensures))
 
 enum-known-refusal : tie.Need-enum-known-refusal
 enum-known-refusal c = search needs
@@ -31,13 +34,13 @@ same-length : tie.Need-same-length
 same-length c = search needs
 
 returns : tie.Need-returns
-returns c = goes stepBack (c .before .before .before .before .before .before .before .before .before .before .before .args .pool .now) _ _ (subst (MayRight stepBack (c .before .before .before .before .before .before .before .before .before .before .before .args .pool .now)) (c .before .before .before .before .before .before .capacity .given .1) (c .before .before .before .before .before .before .before .before .may-step-back .ensures)) (c .before .before .before .before .size-of .ensures) (c .before .before .step-back .last .0) (search needs) refl (c .before .before .step-back .ensures)
+returns c = goes ipv4 laid4 stepBack (c .before .before .before .before .before .before .before .before .before .before .before .args .pool .now) _ _ (subst (MayRight (tree ipv4) stepBack (c .before .before .before .before .before .before .before .before .before .before .before .args .pool .now)) (c .before .before .before .before .before .before .capacity .given .1) (c .before .before .before .before .before .before .before .before .may-step-back .ensures)) (c .before .before .before .before .size-of .ensures) (c .before .before .step-back .last .0) (search needs) refl (c .before .before .step-back .ensures)
 
 same-length-2 : tie.Need-same-length-2
 same-length-2 c = search needs
 
 returns-2 : tie.Need-returns-2
-returns-2 c = refused-by stepBack (c .before .before .before .before .before .before .args .pool .now) (c .before .refusal .given .0 .0) (subst (MayRight stepBack (c .before .before .before .before .before .before .args .pool .now)) (c .before .refusal .given .1) (c .before .before .before .may-step-back .ensures))
+returns-2 c = refused-by (tree ipv4) stepBack (c .before .before .before .before .before .before .args .pool .now) (c .before .refusal .given .0 .0) (subst (MayRight (tree ipv4) stepBack (c .before .before .before .before .before .before .args .pool .now)) (c .before .refusal .given .1) (c .before .before .before .may-step-back .ensures))
 
 pub step-back-spec : {M : Type 1} → statement M
 step-back-spec =

@@ -1,4 +1,6 @@
 use borrow.Author.Needs.{needs}
+use Rattle.pool.specs.Ipv4.{ipv4}
+use Rattle.pool.proofs.Ipv4.{laid4}
 use Rattle.undo.proofs.TakenBack.{strike-may, step-does}
 use Rattle.undo.proofs.back.step_back.Statement.{statement}
 use Rattle.undo.proofs.back.step_back.Tie as tie
@@ -7,13 +9,13 @@ take-back-requires : tie.Need-take-back-requires
 take-back-requires c κs = search needs
 
 strike-requires : tie.Need-strike-requires
-strike-requires c κs = strike-may _ _ _ (c .before .before .before .before .before .before .pre .1) (c .before .before .before .take-back .ensures)
+strike-requires c κs = strike-may ipv4 laid4 _ _ _ (c .before .before .before .before .before .before .pre .1) (c .before .before .before .take-back .ensures)
 
 same-length : tie.Need-same-length
 same-length c = search needs
 
 returns : tie.Need-returns
-returns c = step-does _ _ _ _ (c .before .before .before .before .before .before .take-back .ensures) (c .before .before .strike .ensures)
+returns c = step-does ipv4 laid4 _ _ _ _ (c .before .before .before .before .before .before .take-back .ensures) (c .before .before .strike .ensures)
 
 pub step-back-spec : {M : Type 1} → statement M
 step-back-spec = tie.close (tie.spec take-back-requires strike-requires same-length returns)

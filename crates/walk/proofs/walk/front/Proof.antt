@@ -1,5 +1,6 @@
 use mathlib.Core.Path.{subst}
 use native.Mathlib.Omega.{arith}
+use Rattle.pool.specs.Ipv4.{ipv4}
 use Rattle.climb.specs.Climb.{Leftmost}
 use Rattle.walk.proofs.Fronts.{fronts-leaf, fronts-damaged}
 use borrow.Author.Needs.{needs}
@@ -13,16 +14,16 @@ enum-known-place : tie.Need-enum-known-place
 enum-known-place c = search needs
 
 route-at-requires : tie.Need-route-at-requires
-route-at-requires c κs = let e = subst (Leftmost _ _ _) (c .before .place .given .1) (c .before .before .before .leftmost .ensures) in let i = e .inPool in omega (arith, i, c .before .before .before .before .before .pre)
+route-at-requires c κs = let e = subst (Leftmost ipv4 _ _ _) (c .before .place .given .1) (c .before .before .before .leftmost .ensures) in let i = e .inPool in omega (arith, i, c .before .before .before .before .before .pre)
 
 enum-told : tie.Need-enum-told
 enum-told c = search needs
 
 returns : tie.Need-returns
-returns c = fronts-leaf _ _ _ _ _ (subst (Leftmost _ _ _) (c .before .before .place .given .1) (c .before .before .before .before .leftmost .ensures)) (c .route-at .ensures)
+returns c = fronts-leaf ipv4 _ _ _ _ _ (subst (Leftmost ipv4 _ _ _) (c .before .before .place .given .1) (c .before .before .before .before .leftmost .ensures)) (c .route-at .ensures)
 
 returns-2 : tie.Need-returns-2
-returns-2 c = fronts-damaged _ _ _ (subst (Leftmost _ _ _) (c .enum-told .given .1) (c .before .before .leftmost .ensures))
+returns-2 c = fronts-damaged ipv4 _ _ _ (subst (Leftmost ipv4 _ _ _) (c .enum-told .given .1) (c .before .before .leftmost .ensures))
 
 pub front-spec : {M : Type 1} → statement M
 front-spec =

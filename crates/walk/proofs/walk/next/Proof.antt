@@ -3,7 +3,8 @@ use mathlib.Core.Path.{ap, subst, _∙_}
 use native.Mathlib.Omega.{arith}
 use Rattle.bits.specs.Address.{Part}
 use Rattle.model.specs.Prefix.{Prefix}
-use Rattle.pool.specs.Layout.{seat, prefixAt}
+use Rattle.pool.specs.Layout.{prefixAt, heldPrefix}
+use Rattle.pool.specs.Ipv4.{ipv4}
 use Rattle.search.specs.Down.{EndInPool}
 use Rattle.walk.proofs.Onward.{nexts-leaf, nexts-empty, nexts-damaged}
 use borrow.Author.Needs.{needs}
@@ -14,9 +15,9 @@ inside : (c : tie.After-end) → c .end .given .0 .0 .0 < c .before .before .bef
 inside c = subst (EndInPool _) (c .end .given .1) (c .before .before .down .ensures .endInPool)
 
 -- the bit at which the prefix's address parts from the one that was read
-parts : (c : tie.After-parting) → Part 32 (c .before .before .before .before .before .before .before .before .args .prefix .address) (prefixAt (c .before .before .before .before .before .before .before .before .args .pool .now) (seat (c .before .before .before .before .end .given .0 .0 .0) + 3) .address) (c .parting .result)
+parts : (c : tie.After-parting) → Part 32 (c .before .before .before .before .before .before .before .before .args .prefix .address) (heldPrefix ipv4 (c .before .before .before .before .before .before .before .before .args .pool .now) (c .before .before .before .before .end .given .0 .0 .0) .address) (c .parting .result)
 parts c =
-    let read = ap (λ (p : Prefix). p .address) (c .before .prefix-at .ensures) ∙ ap (λ (n : ℕ). prefixAt (c .before .before .before .before .before .before .before .before .args .pool .now) (n + 3) .address) (c .before .before .seat .ensures) in
+    let read = ap (λ (p : Prefix). p .address) (c .before .prefix-at .ensures) ∙ ap (λ (n : ℕ). prefixAt ipv4 (c .before .before .before .before .before .before .before .before .args .pool .now) (n + 3) .address) (c .before .before .seat .ensures) in
     subst (λ (x : ℕ). Part 32 (c .before .before .before .before .before .before .before .before .args .prefix .address) x (c .parting .result)) read (c .parting .ensures)
 
 down-requires : tie.Need-down-requires
@@ -50,16 +51,16 @@ enum-told-2 : tie.Need-enum-told-2
 enum-told-2 c = search needs
 
 returns : tie.Need-returns
-returns c = nexts-leaf _ _ _ _ (c .before .before .before .before .before .before .before .before .down .ensures) _ _ _ (c .before .before .before .before .before .before .end .given .1) (subst (Part _ _ _) (c .before .if1 .taken) (parts (c .before .before))) (c .within .ensures)
+returns c = nexts-leaf ipv4 _ _ _ _ _ _ (c .before .before .before .before .before .before .before .before .down .ensures) _ _ _ _ (c .before .before .before .before .before .before .end .given .1) (subst (Part _ _ _) (c .before .if1 .taken) (parts (c .before .before))) (c .within .ensures)
 
 returns-2 : tie.Need-returns-2
-returns-2 c = nexts-leaf _ _ _ _ (c .before .before .before .before .before .before .before .before .down .ensures) _ _ _ (c .before .before .before .before .before .before .end .given .1) (parts (c .before .before)) (c .aside .ensures)
+returns-2 c = nexts-leaf ipv4 _ _ _ _ _ _ (c .before .before .before .before .before .before .before .before .down .ensures) _ _ _ _ (c .before .before .before .before .before .before .end .given .1) (parts (c .before .before)) (c .aside .ensures)
 
 returns-3 : tie.Need-returns-3
-returns-3 c = nexts-empty _ _ _ _ (c .before .before .down .ensures) (c .enum-told .given .1)
+returns-3 c = nexts-empty ipv4 _ _ _ _ _ _ (c .before .before .down .ensures) (c .enum-told .given .1)
 
 returns-4 : tie.Need-returns-4
-returns-4 c = nexts-damaged _ _ _ _ (c .before .before .down .ensures) (c .enum-told2 .given .1)
+returns-4 c = nexts-damaged ipv4 _ _ _ _ _ _ (c .before .before .down .ensures) (c .enum-told2 .given .1)
 
 pub next-spec : {M : Type 1} → statement M
 next-spec =

@@ -6,18 +6,19 @@ use borrow.Author.Needs.{needs}
 use lib.ListN.{getD}
 use Rattle.bits.proofs.Cases.{eq-or-ne}
 use Rattle.pool.specs.Layout.{markAt}
+use Rattle.pool.specs.Ipv4.{ipv4}
 use Rattle.search.specs.Down.{Usable}
 use Rattle.walk.proofs.walk.rejoin.Statement.{statement}
 use Rattle.walk.proofs.walk.rejoin.Tie as tie
 
 abbrev Inv-loop : tie.InvT-loop
-Inv-loop pool capacity inner depth parted level₀ level = (level ≤ depth) × ((m : ℕ) → level ≤ m → m < depth → parted < markAt capacity pool (getD inner m 0))
+Inv-loop pool capacity inner depth parted level₀ level = (level ≤ depth) × ((m : ℕ) → level ≤ m → m < depth → parted < markAt ipv4 capacity pool (getD inner m 0))
 
 abbrev μ-loop : tie.MeasureT-loop
 μ-loop pool capacity inner depth parted level₀ level = level
 
 -- the place of the level can be used
-usable : (c : tie.In-loop Inv-loop μ-loop) → Usable (c .before .before .before .args .capacity) (c .before .before .before .args .pool .now) (getD (c .before .before .before .args .inner .now) (c .before .loop .level - 1) 0)
+usable : (c : tie.In-loop Inv-loop μ-loop) → Usable ipv4 (c .before .before .before .args .capacity) (c .before .before .before .args .pool .now) (getD (c .before .before .before .args .inner .now) (c .before .loop .level - 1) 0)
 usable c = c .before .before .before .pre .1 .1 (c .before .loop .level - 1) (omega arith)
 
 loop-holds : tie.Need-loop-holds Inv-loop μ-loop
@@ -48,9 +49,9 @@ loop-again : tie.Need-loop-again Inv-loop μ-loop
 loop-again c =
     let at = c .before .before .before .before .loop .level - 1 in
     let a = c .before .before .before .before .before .before .args in
-    let here : a .parted < markAt (a .capacity) (a .pool .now) (getD (a .inner .now) at 0) = subst (λ (n : ℕ). a .parted < n) (c .before .mark-at .ensures) (c .if1 .left) in (
+    let here : a .parted < markAt ipv4 (a .capacity) (a .pool .now) (getD (a .inner .now) at 0) = subst (λ (n : ℕ). a .parted < n) (c .before .mark-at .ensures) (c .if1 .left) in (
       omega arith,
-      λ m h l. ⊎-elim (λ e. subst (λ (x : ℕ). a .parted < markAt (a .capacity) (a .pool .now) (getD (a .inner .now) x 0)) (sym e) here)
+      λ m h l. ⊎-elim (λ e. subst (λ (x : ℕ). a .parted < markAt ipv4 (a .capacity) (a .pool .now) (getD (a .inner .now) x 0)) (sym e) here)
           (λ n. c .before .before .before .before .loop .inv .1 m (omega arith) l)
           (eq-or-ne m at),
     )
