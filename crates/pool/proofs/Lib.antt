@@ -8,3 +8,4 @@ pub mod Local
 pub mod Distinct
 pub mod Places
 pub mod Few
+pub mod Room
