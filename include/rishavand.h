@@ -112,6 +112,10 @@ uint32_t rishavand_room(const uint32_t *pool, size_t words, uint32_t room[1]);
 /* The length of a mask. 0, or 3 for a mask with a hole. */
 uint32_t rishavand_mask_length(uint32_t mask, uint32_t length[1]);
 
+/* The length to pass with a mask: its ones, or 33 for one with a hole, so that
+ * the call that it is passed to answers 3 in its place. It answers no number. */
+uint32_t rishavand_masked(uint32_t mask);
+
 /* Opens a trial: from here on each accepted add, delete and change is recorded,
  * at most 64. 0, or the first of 9, 10. */
 uint32_t rishavand_open(uint32_t *pool, size_t words);

@@ -2,7 +2,7 @@
 //! refusal must leave all of them, and no call may touch those past the pool's size. What it sees wrong it keeps as a
 //! complaint, so that the answers themselves can be compared first.
 use crate::calls::Calls;
-use crate::rules::{Hop, Prefix, Route};
+use crate::rules::{Hop, Prefix, Route, NO_LENGTH};
 use std::cell::RefCell;
 
 mod c {
@@ -26,6 +26,7 @@ mod c {
         pub fn rishavand_next(pool: *const u32, words: usize, at: u32, length: u32, route: *mut u32) -> u32;
         pub fn rishavand_room(pool: *const u32, words: usize, room: *mut u32) -> u32;
         pub fn rishavand_mask_length(mask: u32, length: *mut u32) -> u32;
+        pub fn rishavand_masked(mask: u32) -> u32;
         pub fn rishavand_open(pool: *mut u32, words: usize) -> u32;
         pub fn rishavand_keep(pool: *mut u32, words: usize) -> u32;
         pub fn rishavand_back_out(pool: *mut u32, words: usize) -> u32;
@@ -185,7 +186,12 @@ impl Calls for Pool {
     }
 
     fn mask_length(&self, mask: u32) -> Result<u32, u32> {
-        self.read_words("mask", |_, _, length| unsafe { c::rishavand_mask_length(mask, length) }).map(|[length]| length)
+        let answer = self.read_words("mask", |_, _, length| unsafe { c::rishavand_mask_length(mask, length) }).map(|[length]| length);
+        let passed = unsafe { c::rishavand_masked(mask) };
+        if passed != answer.unwrap_or(NO_LENGTH) {
+            self.complain(format!("masked answered {passed} for {mask:#010x}, whose length is {answer:?}"));
+        }
+        answer
     }
 
     fn open(&mut self) -> u32 {

@@ -143,6 +143,9 @@ static void refused(void)
     printf("sound: %" PRIu32 " %" PRIu32 "\n", rishavand_sound(pool, words), rishavand_sound(bare, 4));
     printf("add to what is no pool: %" PRIu32 "\n", rishavand_add(bare, 4, 0, 33, 3, 16, 0));
     printf("add a length of 33: %" PRIu32 "\n", rishavand_add(pool, words, 0, 33, 3, 16, 0));
+    printf("delete by a mask with a hole, there and in what is no pool: %" PRIu32 " %" PRIu32 "\n",
+           rishavand_delete(pool, words, IP(127, 0, 0, 0), rishavand_masked(IP(255, 0, 255, 0))),
+           rishavand_delete(bare, 4, IP(127, 0, 0, 0), rishavand_masked(IP(255, 0, 255, 0))));
     printf("add a kind of 3: %" PRIu32 "\n", rishavand_add(pool, words, 0, 0, 3, 0, 0));
     printf("add what is there: %" PRIu32 "\n", rishavand_add(pool, words, 0, 0, RISHAVAND_REJECT, 99, 99));
     printf("add one too many: %" PRIu32 "\n",

@@ -39,6 +39,7 @@ extern "C" {
     ) -> u32;
     pub fn rishavand_room(pool: *const u32, words: usize, room: *mut [u32; 1]) -> u32;
     pub fn rishavand_mask_length(mask: u32, length: *mut [u32; 1]) -> u32;
+    pub fn rishavand_masked(mask: u32) -> u32;
     pub fn rishavand_open(pool: *mut u32, words: usize) -> u32;
     pub fn rishavand_keep(pool: *mut u32, words: usize) -> u32;
     pub fn rishavand_back_out(pool: *mut u32, words: usize) -> u32;

@@ -33,12 +33,11 @@ impl Prefix {
         Prefix::new(address, 32)
     }
 
-    /// A prefix whose length comes as a mask. A mask with a hole is [`Refusal::BadPrefix`].
-    pub fn with_mask(
-        address: impl Into<Ipv4Addr>,
-        mask: impl Into<Ipv4Addr>,
-    ) -> Result<Prefix, Refusal> {
-        Ok(Prefix::new(address, mask_length(mask)?))
+    /// A prefix whose length comes as a mask. With a hole in the mask it is a prefix that no call takes: each answers
+    /// [`Refusal::BadPrefix`], in its order. [`mask_length`] tells at once whether there is a hole.
+    pub fn with_mask(address: impl Into<Ipv4Addr>, mask: impl Into<Ipv4Addr>) -> Prefix {
+        // SAFETY: the function takes and answers plain numbers.
+        Prefix::new(address, unsafe { raw::rishavand_masked(mask.into().into()) })
     }
 
     pub(crate) fn word(self) -> u32 {

@@ -213,8 +213,22 @@ fn masks_are_measured() {
     assert_eq!(mask_length([255, 0, 255, 0]), Err(Refusal::BadPrefix));
     assert_eq!(
         Prefix::with_mask([10, 0, 0, 0], [255, 0, 0, 0]),
-        Ok(ten(ONE).prefix)
+        ten(ONE).prefix
     );
+}
+
+#[test]
+fn a_mask_with_a_hole_is_refused_by_each_call() {
+    let holed = Prefix::with_mask([10, 0, 0, 0], [255, 0, 255, 0]);
+    let mut words = vec![0; words_for(4).unwrap()];
+    let mut pool = Pool::fresh(&mut words, 4).unwrap();
+    let route = Route {
+        prefix: holed,
+        hop: Hop::Reject,
+    };
+    assert_eq!(pool.add(route), Err(Refusal::BadPrefix));
+    assert_eq!(pool.change(route), Err(Refusal::BadPrefix));
+    assert_eq!(pool.delete(holed), Err(Refusal::BadPrefix));
 }
 
 #[test]

@@ -16,6 +16,7 @@ pub use changing::rishavand_step_back;
 pub use reading::rishavand_first;
 pub use reading::rishavand_lookup;
 pub use reading::rishavand_mask_length;
+pub use reading::rishavand_masked;
 pub use reading::rishavand_next;
 pub use reading::rishavand_room;
 pub use reading::rishavand_sound;

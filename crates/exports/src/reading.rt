@@ -1,3 +1,5 @@
+ghost use mathlib.Core.Path.{_≡_};
+ghost use Rattle.model.specs.Masked.{maskedLength};
 ghost use Rattle.model.specs.Call as call;
 ghost use Rattle.pool.specs.Ipv4.{ipv4};
 ghost use Rattle.promise.specs.Table.{Sound};
@@ -72,4 +74,13 @@ pub extern "C" fn rishavand_mask_length(mask: u32, length: &mut [u32; 1]) -> u32
     };
     *length = [ones.0];
     0
+}
+
+// The length to pass with a mask: where the mask has a hole, one that no call takes, so that each answers 3 at its place.
+#[no_mangle]
+pub extern "C" fn rishavand_masked(mask: u32) -> u32
+    ensures { λ r. ⌜ r ≡ maskedLength 32 mask ⌝ }
+{
+    let length = Length::of_mask(mask);
+    length.0
 }

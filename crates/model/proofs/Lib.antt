@@ -7,6 +7,7 @@ pub mod Append
 pub mod Match
 pub mod Walk
 pub mod Numbers
+pub mod Masked
 pub mod Undo
 pub mod Lawful
 pub mod History

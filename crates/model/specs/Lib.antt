@@ -1,4 +1,5 @@
 pub mod Prefix
+pub mod Masked
 pub mod Routes
 pub mod Match
 pub mod State

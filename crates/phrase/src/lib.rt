@@ -13,7 +13,6 @@ use numeral::take_number;
 use numeral::word_at;
 use route::Hop;
 use route::Length;
-use route::Masked;
 use route::Port;
 use route::Prefix;
 use route::Route;
@@ -34,14 +33,6 @@ enum TakenHop {
 pub enum TakenRoute {
     Value(Route, usize),
     Wrong(Fault),
-}
-
-// A mask with a hole is handed on as a length that no prefix has, so that the call refuses it with 3, in its order.
-fn masked(address: u32, mask: u32) -> Prefix {
-    match Prefix::with_mask(address, mask) {
-        Masked::Prefix(prefix) => prefix,
-        Masked::Refused(_) => Prefix::new(address, Length(Prefix::WIDTH + 1)),
-    }
 }
 
 // An address and a length with a slash between them, at a place of the word.
@@ -68,7 +59,7 @@ fn with_mask(line: &[u8], text: &[u8], next: usize) -> TakenPrefix {
         return TakenPrefix::Wrong(Fault::BadAddress);
     };
     match take_address(line, after(line, next)) {
-        Taken::Value(mask, end) => TakenPrefix::Value(masked(bits, mask), end),
+        Taken::Value(mask, end) => TakenPrefix::Value(Prefix::with_mask(bits, mask), end),
         Taken::Wrong(fault) => TakenPrefix::Wrong(fault),
     }
 }

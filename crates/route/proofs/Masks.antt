@@ -6,10 +6,10 @@ use Rattle.bits.specs.Mask.{goodMask}
 use Rattle.bits.specs.Answer.{maskAnswer}
 use Rattle.bits.specs.declared.MaskAnswer.{MaskAnswer}
 use Rattle.bits.specs.declared.MaskAnswer.the-variants.{Length, Holed}
-use Rattle.route.specs.Masks.{measuredAs, maskedAs}
+use Rattle.model.specs.Masked.{maskedLength}
+use Rattle.route.specs.Masks.{measuredAs}
 use Rattle.route.specs.declared.answer.Refusal.the-variants.{BadPrefix}
 use Rattle.route.specs.declared.answer.Measured as measured
-use Rattle.route.specs.declared.answer.Masked as masked
 
 abbrev pub ofMask : MaskAnswer → measured.Measured
 ofMask (Length n) = measured.Measured.Length (record { 0 = n })
@@ -23,14 +23,15 @@ of-mask m = go (goodMask 32 m) refl
     go true t = rw t
     go false t = rw t
 
-abbrev pub ofMeasure : ℕ → measured.Measured → masked.Masked
-ofMeasure a (measured.Measured.Length n) = masked.Masked.Prefix (record { address = a; length = n })
-ofMeasure a (measured.Measured.Refused x) = masked.Masked.Refused BadPrefix
+-- the length that goes with an answer
+abbrev pub ofMeasure : measured.Measured → ℕ
+ofMeasure (measured.Measured.Length n) = n .0
+ofMeasure (measured.Measured.Refused x) = 33
 
-pub of-measure : (a m : ℕ) → ofMeasure a (measuredAs m) ≡ maskedAs a m
-unfolding measuredAs maskedAs
-of-measure a m = go (goodMask 32 m) refl
+pub of-measure : (m : ℕ) → ofMeasure (measuredAs m) ≡ maskedLength 32 m
+unfolding measuredAs maskedLength
+of-measure m = go (goodMask 32 m) refl
   where
-    go : (b : Bool) → goodMask 32 m ≡ b → ofMeasure a (measuredAs m) ≡ maskedAs a m
+    go : (b : Bool) → goodMask 32 m ≡ b → ofMeasure (measuredAs m) ≡ maskedLength 32 m
     go true t = rw t
     go false t = rw t

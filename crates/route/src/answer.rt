@@ -3,7 +3,6 @@ ghost use Rattle.route.specs.Answers.{refusalNumber, foundNumber, roomNu
 ghost use Rattle.route.specs.Masks.{measuredAs};
 use super::hop::Route;
 use super::prefix::Length;
-use super::prefix::Prefix;
 
 // Why a call says no.
 pub enum Refusal {
@@ -99,12 +98,6 @@ impl Measured {
             Measured::Refused(refusal) => refusal.number(),
         }
     }
-}
-
-// A prefix made of an address and a mask.
-pub enum Masked {
-    Prefix(Prefix),
-    Refused(Refusal),
 }
 
 // A change made, or not.

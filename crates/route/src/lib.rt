@@ -6,7 +6,6 @@ mod prefix;
 
 pub use answer::Done;
 pub use answer::Found;
-pub use answer::Masked;
 pub use answer::Measured;
 pub use answer::Refusal;
 pub use answer::Room;

@@ -1,15 +1,25 @@
 ghost use mathlib.Core.Path.{_≡_};
 ghost use Rattle.model.specs.Prefix.{wellFormed, matches, before, same};
+ghost use Rattle.model.specs.Masked.{maskedLength, masked};
 ghost use Rattle.model.specs.Ipv4.{mayHold};
 ghost use Rattle.route.specs.Means.{prefixOf};
-ghost use Rattle.route.specs.Masks.{maskedAs};
-use super::answer::Masked;
 use super::answer::Measured;
-use super::answer::Refusal;
 use super::answer::measure;
 
 // A prefix length: how many bits of the address count.
 pub struct Length(pub u32);
+
+impl Length {
+    // The length that goes with a mask: its ones, or one that no prefix has where the mask has a hole.
+    pub fn of_mask(mask: u32) -> Length
+        ensures { λ r. ⌜ r .0 ≡ maskedLength 32 mask ⌝ }
+    {
+        match measure(mask) {
+            Measured::Length(length) => length,
+            Measured::Refused(_) => Length(Prefix::WIDTH + 1),
+        }
+    }
+}
 
 // The prefix of a route: an address and how much of it counts.
 pub struct Prefix {
@@ -39,14 +49,14 @@ impl Prefix {
         Prefix::DEFAULT
     }
 
-    // The mask's ones are the length; a mask with a hole makes no prefix.
-    pub fn with_mask(address: u32, mask: u32) -> Masked
-        ensures { λ r. ⌜ r ≡ maskedAs address mask ⌝ }
+    // The mask's ones are the length. A mask with a hole makes a prefix that no call takes, so that each answers 3 at its place.
+    pub fn with_mask(address: u32, mask: u32) -> Prefix
+        ensures { λ r. ⌜ prefixOf r ≡ masked 32 address mask ⌝ }
     {
-        let Measured::Length(length) = measure(mask) else {
-            return Masked::Refused(Refusal::BadPrefix);
-        };
-        Masked::Prefix(Prefix { address, length })
+        Prefix {
+            address,
+            length: Length::of_mask(mask),
+        }
     }
 
     pub fn host(address: u32) -> Prefix

@@ -1,24 +1,19 @@
-use mathlib.Core.Path.{sym, ap, _∙_}
-use Rattle.route.proofs.Masks.{ofMeasure, of-measure}
+-- The address as it is, with the length that goes with the mask.
+use Prim.Native.Nat.{ℕ}
+use mathlib.Core.Path.{ap}
 use borrow.Author.Needs.{needs}
+use Rattle.model.specs.Prefix.{Prefix}
 use Rattle.route.proofs.prefix.Prefix.with_mask.Statement.{statement}
 use Rattle.route.proofs.prefix.Prefix.with_mask.Tie as tie
 
-measure-requires : tie.Need-measure-requires
-measure-requires c κs = search needs
+abbrev prefix : ℕ → ℕ → Prefix
+prefix a n = record { address = a; length = n }
 
-enum-known-length : tie.Need-enum-known-length
-enum-known-length c = search needs
-
-enum-told : tie.Need-enum-told
-enum-told c = search needs
+of-mask-requires : tie.Need-of-mask-requires
+of-mask-requires c κs = search needs
 
 returns : tie.Need-returns
-returns c = sym (ap (ofMeasure _) (c .enum-told .given .1)) ∙ ap (ofMeasure _) (c .before .before .measure .ensures) ∙ of-measure _ _
-
-returns-2 : tie.Need-returns-2
-returns-2 c = sym (ap (ofMeasure _) (c .before .length .given .1)) ∙ ap (ofMeasure _) (c .before .before .before .measure .ensures) ∙ of-measure _ _
+returns c = ap (prefix (c .before .args .address)) (c .of-mask .ensures)
 
 pub with-mask-spec : {M : Type 1} → statement M
-with-mask-spec =
-    tie.close (tie.spec measure-requires enum-known-length enum-told returns returns-2)
+with-mask-spec = tie.close (tie.spec of-mask-requires returns)
