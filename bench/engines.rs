@@ -1,5 +1,6 @@
 //! What is measured: the proved table behind its C interface, and two lists of routes that try every route. Each lookup is a
 //! call that is not inlined and writes the route out, as the table's is.
+use crate::limits::{size, MOST_ROUTES};
 use crate::tables::{mask, Route};
 
 pub trait Engine {
@@ -17,8 +18,6 @@ mod c {
     }
 }
 
-pub const CAPACITY: u32 = 96;
-
 /// The proved table. Every pointer that it hands over is that of its own words.
 pub struct Table {
     words: Vec<u32>,
@@ -26,8 +25,8 @@ pub struct Table {
 
 impl Table {
     pub fn new(routes: &[Route]) -> Table {
-        let mut table = Table { words: vec![0; 2184] };
-        let made = unsafe { c::rishavand_fresh(table.words.as_mut_ptr(), table.words.len(), CAPACITY) };
+        let mut table = Table { words: vec![0; size(MOST_ROUTES)] };
+        let made = unsafe { c::rishavand_fresh(table.words.as_mut_ptr(), table.words.len(), MOST_ROUTES) };
         assert_eq!(made, 0, "fresh");
         for route in routes {
             assert_eq!(table.add(route), 0, "add {route:?}");

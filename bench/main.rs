@@ -2,12 +2,14 @@
 //!
 //!     bench PICTURE [--quick]    --quick takes few turns: it shows that all works, and its figures say nothing
 mod engines;
+#[path = "../reference/limits.rs"]
+mod limits;
 mod measure;
 mod plot;
 mod radix;
 mod tables;
 
-use measure::{Changes, Lookups, ENGINES};
+use measure::{Changes, Lookups, CAPACITY, ENGINES};
 use std::process::ExitCode;
 
 fn print_lookups(all: &[Lookups]) {
@@ -22,7 +24,7 @@ fn print_lookups(all: &[Lookups]) {
 }
 
 fn print_changes(all: &[Changes]) {
-    println!("\nThe proved table's other calls: microseconds each, capacity 96, no trial open\n");
+    println!("\nThe proved table's other calls: microseconds each, capacity {CAPACITY}, no trial open\n");
     println!("| routes held | add | delete | sound |\n|---|---|---|---|");
     for Changes { routes, add, delete, sound } in all {
         println!("| {routes} | {add:.2} | {delete:.2} | {sound:.2} |");
@@ -41,13 +43,14 @@ fn main() -> ExitCode {
         }
     };
     let mut lookups = vec![];
-    for routes in [1, 16, 96] {
+    for routes in [1, 16, CAPACITY] {
         for (kind, name) in tables::KINDS {
             lookups.push(measure::lookups(kind, name, routes, turns, passes));
         }
     }
-    let counts = [0, 8, 16, 24, 32, 48, 64, 80, 95];
-    let changes: Vec<Changes> = counts.iter().map(|&routes| measure::changes(routes, turns * 100)).collect();
+    // the last holds a route less than it could, since an add needs room
+    let counts = [0, 1, 2, 3, 4, 6, 8, 10].map(|twelfths| CAPACITY * twelfths / 12).into_iter().chain([CAPACITY - 1]);
+    let changes: Vec<Changes> = counts.map(|routes| measure::changes(routes, turns * 100)).collect();
     print_lookups(&lookups);
     print_changes(&changes);
     if let Err(error) = std::fs::write(picture, plot::picture(&lookups, &changes)) {

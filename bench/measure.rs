@@ -1,11 +1,15 @@
 //! The clock. Engines take turns, so that what else the machine does falls on all of them, and the median counts.
 use crate::engines::{Engine, Scan, StoredScan, Table};
+use crate::limits::MOST_ROUTES;
 use crate::radix::Radix;
 use crate::tables::{self, Kind, Route};
 use std::hint::black_box;
 use std::time::Instant;
 
 pub const ENGINES: [&str; 4] = ["proved table", "list, masks computed", "list, masks stored", "BSD tree of pointers"];
+
+/// That of every proved table that is measured, however many routes it holds.
+pub const CAPACITY: usize = MOST_ROUTES as usize;
 
 /// Nanoseconds per lookup, for each of ENGINES.
 pub struct Lookups {
@@ -79,11 +83,11 @@ fn microseconds(call: impl FnOnce() -> u32, due: u32) -> f64 {
 
 /// Each of the site's next routes goes in and comes out again, so the table stays as large as is said.
 pub fn changes(routes: usize, turns: usize) -> Changes {
-    let all = tables::site(96);
+    let all = tables::site(CAPACITY);
     let mut table = Table::new(&all[..routes]);
     let (mut add, mut delete, mut sound) = (vec![], vec![], vec![]);
     for turn in 0..turns {
-        let next = all[routes + turn % (96 - routes)];
+        let next = all[routes + turn % (CAPACITY - routes)];
         sound.push(microseconds(|| table.sound(), 1));
         add.push(microseconds(|| table.add(&next), 0));
         delete.push(microseconds(|| table.delete(&next), 0));

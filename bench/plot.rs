@@ -1,5 +1,5 @@
 //! The figures as a picture: lookups per second as bars on a logarithmic scale, the cost of changes as lines.
-use crate::measure::{Changes, Lookups, ENGINES};
+use crate::measure::{Changes, Lookups, CAPACITY, ENGINES};
 
 // colours that stay apart for colour-blind readers
 const COLOURS: [&str; 4] = ["#0072b2", "#e69f00", "#009e73", "#cc79a7"];
@@ -104,17 +104,18 @@ fn change_panel(all: &[Changes]) -> String {
     let most = all.iter().flat_map(|c| [c.add, c.delete, c.sound]).fold(0.0, f64::max);
     let step = nice_step(most);
     let top = (most / step).ceil() * step;
-    let mut out =
-        panel.title("Cost of add, delete and sound", "lower is better; the proved table, capacity 96, no trial open");
+    let note = format!("lower is better; the proved table, capacity {CAPACITY}, no trial open");
+    let mut out = panel.title("Cost of add, delete and sound", &note);
     for i in 0..=(top / step).round() as i32 {
         out += &panel.tick(f64::from(i) * step / top, &plain(f64::from(i) * step));
     }
-    for count in [0, 16, 32, 48, 64, 80, 96] {
-        out += &text(panel.x(f64::from(count) / 96.0), panel.bottom + 18.0, "middle", 12, &count.to_string());
+    let across = |routes: usize| panel.x(routes as f64 / CAPACITY as f64);
+    for count in (0..=6).map(|sixths| CAPACITY * sixths / 6) {
+        out += &text(across(count), panel.bottom + 18.0, "middle", 12, &count.to_string());
     }
     for (i, colour) in COLOURS.iter().take(3).enumerate() {
         let value = |c: &Changes| [c.add, c.delete, c.sound][i];
-        let point = |c: &Changes| (panel.x(c.routes as f64 / 96.0), panel.y(value(c) / top));
+        let point = |c: &Changes| (across(c.routes), panel.y(value(c) / top));
         let path: Vec<String> = all.iter().map(point).map(|(x, y)| format!("{x:.1},{y:.1}")).collect();
         out += &format!("<polyline points='{}' fill='none' stroke='{colour}' stroke-width='2'/>\n", path.join(" "));
         for (x, y) in all.iter().map(point) {

@@ -1,4 +1,5 @@
 //! The tables and the addresses that every engine is measured on: the same for all, and the same in every run.
+use crate::limits::LAST_PORT;
 
 /// Address, length, kind, port, gateway, as in the C interface.
 pub type Route = [u32; 5];
@@ -58,7 +59,7 @@ pub fn site(count: usize) -> Vec<Route> {
         let address = (block | dice.draw() & 0x001F_07FF) & mask(length);
         let held = routes.iter().any(|r| r[0] == address && r[1] == length);
         if !held {
-            let port = dice.below(16);
+            let port = dice.below(LAST_PORT + 1);
             routes.push([address, length, 0, port, 0]);
         }
     }

@@ -6,6 +6,7 @@
 //!     console --random SEED COUNT  a script of COUNT commands
 mod calls;
 mod language;
+mod limits;
 mod model;
 mod random;
 mod rules;

@@ -2,10 +2,11 @@
 //! every call refuses with 9 and changes nothing; where it says yes, the pool must behave as a table, and the list takes over
 //! its routes to say how.
 use crate::calls::Calls;
+use crate::limits::{LAST_PORT, MOST_CHANGES, MOST_ROUTES};
 use crate::model::Model;
 use crate::pool::{Pool, LENT};
 use crate::random::{script_over, Dice};
-use crate::rules::{mask, Hop, Prefix, Route, MOST_CHANGES, MOST_ROUTES};
+use crate::rules::{mask, Hop, Prefix, Route};
 use crate::speak::answer;
 use crate::words::routes_if_sound;
 
@@ -53,7 +54,7 @@ const HOST: Prefix = Prefix { address: 0x0A00_0001, length: 32 };
 
 const CHANGES: [Change; 9] = [
     ("add", |p| p.add(HOST, Hop::Direct(1))),
-    ("add of a bad route", |p| p.add(Prefix { address: 1, length: 33 }, Hop::Direct(16))),
+    ("add of a bad route", |p| p.add(Prefix { address: 1, length: 33 }, Hop::Direct(LAST_PORT + 1))),
     ("add of no hop", |p| p.add_kind(HOST, 3)),
     ("delete", |p| p.delete(HOST)),
     ("change", |p| p.change(HOST, Hop::Reject)),
@@ -102,7 +103,7 @@ fn walk(pool: &Pool) -> Result<Vec<Route>, Wrong> {
         ensure(route.prefix.well_formed() && route.hop.good(), &format!("the walk gives {route:?}"))?;
         let in_order = routes.last().is_none_or(|last| last.prefix.rank() < route.prefix.rank());
         ensure(in_order, &format!("the walk gives {route:?} out of order"))?;
-        ensure(routes.len() < MOST_ROUTES as usize, "the walk goes on past 96 routes")?;
+        ensure(routes.len() < MOST_ROUTES as usize, "the walk goes on past the largest capacity")?;
         routes.push(route);
         found = pool.next(route.prefix);
     }
@@ -183,7 +184,7 @@ fn takes_back(pool: &Pool) -> Result<(), Wrong> {
     while step.step_back() == 0 {
         steps += 1;
         walk(&step)?;
-        ensure(steps <= MOST_CHANGES, "more than 64 steps back")?;
+        ensure(steps <= MOST_CHANGES, "more steps back than changes may stand")?;
     }
     ensure(step.step_back() == 12, "steps back end without 12")?;
     ensure(walk(&step)? == walk(&out)?, "stepping back and backing out differ")?;
@@ -201,7 +202,7 @@ fn begins_anew(pool: &Pool, dice: &mut Dice) -> Result<(), Wrong> {
     ensure(copy.step_back() == 11, "a fresh table has a trial open")?;
     let mut short = pool.lending(copy.size() - 1);
     ensure(short.fresh(capacity) == 2, "fresh is not 2 in a buffer that is too short")?;
-    ensure(short.fresh(97) == 1, "fresh is not 1 before 2")?;
+    ensure(short.fresh(MOST_ROUTES + 1) == 1, "fresh is not 1 before 2")?;
     no_complaint(&copy)?;
     no_complaint(&short)
 }

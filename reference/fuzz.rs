@@ -9,6 +9,7 @@ mod damage;
 mod hostile;
 mod hurt;
 mod language;
+mod limits;
 mod model;
 mod pool;
 mod random;

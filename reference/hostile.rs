@@ -1,12 +1,42 @@
 //! Pools that are not sound and have a name, some made to keep a careless reader busy for ever, and the sound ones beside them.
-//! The words are written after docs/POOL.md and not by the code under test: with capacity 96, route place i begins at word
-//! 8 + 8 i, inner place j at 776 + 4 j and change k at 1160 + 16 k.
+//! All have the largest capacity. The words are written after docs/POOL.md and not by the code under test.
 use crate::calls::Calls;
 use crate::damage;
+use crate::limits::{size, HEAD, LAST_PORT, MOST_CHANGES, MOST_ROUTES};
 use crate::pool::Pool;
+use crate::words::{rows, Rows};
 
-const SIZE: usize = 2184;
-const CHANGES: usize = 1160;
+const SIZE: usize = size(MOST_ROUTES);
+const ROWS: [Rows; 3] = rows(MOST_ROUTES as usize);
+/// The last place of either sort.
+const LAST: usize = MOST_ROUTES as usize - 1;
+
+/// A route place: kind, port, gateway, address, length, next link.
+const fn route_at(i: usize) -> usize {
+    ROWS[0].at(i)
+}
+const PORT: usize = 1;
+const GATEWAY: usize = 2;
+const LENGTH: usize = 4;
+const NEXT: usize = 5;
+const DIRECT: u32 = 1;
+const VIA: u32 = 2;
+const REJECT: u32 = 3;
+
+/// An inner place: mark, left link, right link.
+const fn inner_at(j: usize) -> usize {
+    ROWS[1].at(j)
+}
+const LEFT: usize = 1;
+const RIGHT: usize = 2;
+
+const fn to_route(i: u32) -> u32 {
+    2 * i + 1
+}
+
+const fn to_inner(j: u32) -> u32 {
+    2 * j + 2
+}
 
 /// What is wrong with a pool, its words, and how many of them are lent.
 type Named = (&'static str, Vec<u32>, usize);
@@ -35,24 +65,35 @@ fn keeps(pool: &Pool, due: bool) -> Result<(), String> {
 
 /// The words of `good` with some of them changed.
 fn with(changes: &[(usize, u32)]) -> Vec<u32> {
-    put(good(), changes)
+    changes.iter().fold(good(), |words, &(at, word)| put(words, at, &[word]))
 }
 
-fn put(mut words: Vec<u32>, changes: &[(usize, u32)]) -> Vec<u32> {
-    changes.iter().for_each(|&(at, word)| words[at] = word);
+fn put(mut words: Vec<u32>, at: usize, row: &[u32]) -> Vec<u32> {
+    words[at..][..row.len()].copy_from_slice(row);
     words
+}
+
+/// A pool with this many routes and this root link, and these rows.
+fn pool(count: u32, root: u32, rows: &[(usize, &[u32])]) -> Vec<u32> {
+    let head = put(vec![0; SIZE], 0, &[MOST_ROUTES, count, root]);
+    rows.iter().fold(head, |words, (at, row)| put(words, *at, row))
 }
 
 /// 0.0.0.0/0, 127.0.0.0/8 and 127.0.0.1/32 in places 0 to 2; inner places 0 and 1.
 fn good() -> Vec<u32> {
-    let routes =
-        [(8, 2), (10, 0x8CFC_0D21), (16, 3), (19, 0x7F00_0000), (20, 8), (24, 1), (25, 2), (27, 0x7F00_0001), (28, 32)];
-    let inners = [(776, 2), (777, 1), (778, 4), (780, 32), (781, 3), (782, 5)];
-    put(vec![0; SIZE], &[&[(0, 96), (1, 3), (2, 2)][..], &routes, &inners].concat())
+    let rows: [(usize, &[u32]); 5] = [
+        (route_at(0), &[VIA, 0, 0x8CFC_0D21, 0, 0]),
+        (route_at(1), &[REJECT, 0, 0, 0x7F00_0000, 8]),
+        (route_at(2), &[DIRECT, 2, 0, 0x7F00_0001, 32]),
+        (inner_at(0), &[2, to_route(0), to_inner(1)]),
+        (inner_at(1), &[32, to_route(1), to_route(2)]),
+    ];
+    pool(3, to_inner(0), &rows)
 }
 
 fn sound() -> Vec<Named> {
-    vec![("three routes", good(), SIZE), ("64 standing changes", standing_good(64), SIZE)]
+    let standing = standing_good(MOST_CHANGES as u32);
+    vec![("three routes", good(), SIZE), ("as many standing changes as there may be", standing, SIZE)]
 }
 
 fn unsound() -> impl Iterator<Item = Named> {
@@ -69,19 +110,19 @@ fn unsound() -> impl Iterator<Item = Named> {
         .chain(trials().map(whole))
 }
 
-const SHORT: [(&str, usize); 4] = [("a word too few", SIZE - 1), ("the head alone", 8), ("one word", 1), ("no word", 0)];
+const SHORT: [(&str, usize); 4] = [("a word too few", SIZE - 1), ("the head alone", HEAD), ("one word", 1), ("no word", 0)];
 
 /// The head's numbers.
 const HEADS: [(&str, usize, u32); 12] = [
     ("capacity 0", 0, 0),
-    ("capacity 97", 0, 97),
+    ("a capacity above the largest", 0, MOST_ROUTES + 1),
     ("capacity 4294967295", 0, u32::MAX),
-    ("capacity 95 over the words of 96", 0, 95),
+    ("a capacity that is one too low for its words", 0, MOST_ROUTES - 1),
     ("a count that is too high", 1, 4),
     ("a count that is too low", 1, 2),
     ("no root link", 2, 0),
-    ("a root link to route place 96", 2, 193),
-    ("a root link to inner place 96", 2, 194),
+    ("a root link to the route place behind the last", 2, to_route(MOST_ROUTES)),
+    ("a root link to the inner place behind the last", 2, to_inner(MOST_ROUTES)),
     ("a root link of 4294967295", 2, u32::MAX),
     ("an open-trial word of 2", 3, 2),
     ("a change and no trial open", 4, 1),
@@ -89,26 +130,26 @@ const HEADS: [(&str, usize, u32); 12] = [
 
 /// One word of a place.
 const PLACES: [(&str, usize, u32); 12] = [
-    ("a used route place outside the tree", 768, 3),
-    ("a used inner place outside the tree", 1156, 5),
-    ("a free route place in the tree", 8, 0),
-    ("a free inner place in the tree", 776, 0),
-    ("kind 4", 8, 4),
-    ("port 16", 25, 16),
-    ("gateway 0", 10, 0),
-    ("length 33", 28, 33),
-    ("a set bit past the length", 20, 7),
-    ("bit 32", 780, 33),
-    ("a child that tests its parent's bit", 780, 2),
-    ("a node that tests the wrong bit", 780, 31),
+    ("a used route place outside the tree", route_at(LAST), REJECT),
+    ("a used inner place outside the tree", inner_at(LAST), 5),
+    ("a free route place in the tree", route_at(0), 0),
+    ("a free inner place in the tree", inner_at(0), 0),
+    ("a kind behind the last", route_at(0), REJECT + 1),
+    ("a port behind the last", route_at(2) + PORT, LAST_PORT + 1),
+    ("gateway 0", route_at(0) + GATEWAY, 0),
+    ("length 33", route_at(2) + LENGTH, 33),
+    ("a set bit past the length", route_at(1) + LENGTH, 7),
+    ("bit 32", inner_at(1), 33),
+    ("a child that tests its parent's bit", inner_at(1), 2),
+    ("a node that tests the wrong bit", inner_at(1), 31),
 ];
 
 /// One link.
 const LINKS: [(&str, usize, u32); 4] = [
-    ("an inner place that is its own child", 781, 4),
-    ("a route that is its own next", 13, 1),
-    ("a next link to an inner place", 13, 2),
-    ("two links to one leaf", 778, 1),
+    ("an inner place that is its own child", inner_at(1) + LEFT, to_inner(1)),
+    ("a route that is its own next", route_at(0) + NEXT, to_route(0)),
+    ("a next link to an inner place", route_at(0) + NEXT, to_inner(0)),
+    ("two links to one leaf", inner_at(0) + RIGHT, to_route(0)),
 ];
 
 fn filled() -> impl Iterator<Item = (&'static str, Vec<u32>)> {
@@ -119,62 +160,67 @@ fn filled() -> impl Iterator<Item = (&'static str, Vec<u32>)> {
 
 /// Trees and chains that are none.
 fn shapes() -> impl Iterator<Item = (&'static str, Vec<u32>)> {
-    let swapped = with(&[(781, 5), (782, 3)]);
-    let cycle = inner(inner(good(), 0, [2, 4, 4]), 1, [2, 2, 2]);
+    let swapped = with(&[(inner_at(1) + LEFT, to_route(2)), (inner_at(1) + RIGHT, to_route(1))]);
+    let cycle = inner(inner(good(), 0, 2, [to_inner(1); 2]), 1, 2, [to_inner(0); 2]);
     // 127.0.0.0/8 and 127.0.0.0/24, and each is the other's next
-    let round = with(&[(2, 5), (21, 5), (27, 0x7F00_0000), (28, 24), (29, 3)]);
+    let round = put(with(&[(2, to_route(2)), (route_at(1) + NEXT, to_route(2))]), route_at(2), &ROUND);
     [
         ("the two sides of a node swapped", swapped),
-        ("a shared subtree below every inner place", shared([32, 1, 1])),
-        ("the same with good leaves on one side", shared([32, 3, 5])),
+        ("a shared subtree below every inner place", shared([to_route(0); 2])),
+        ("the same with good leaves on one side", shared([to_route(1), to_route(2)])),
         ("a cycle of inner places with one bit", cycle),
         ("a cycle of inner places with growing bits", long_cycle()),
         ("a chain that goes round", round),
-        ("a chain of 96 routes", long_chain()),
-        ("a next link to place 96", beyond()),
+        ("a chain of all route places", long_chain()),
+        ("a next link to the place behind the last", beyond()),
     ]
     .into_iter()
 }
 
-/// The words of an inner place: mark, left link, right link.
-fn inner(words: Vec<u32>, j: u32, [mark, left, right]: [u32; 3]) -> Vec<u32> {
-    let at = 776 + 4 * j as usize;
-    put(words, &[(at, mark), (at + 1, left), (at + 2, right)])
+const ROUND: [u32; 6] = [DIRECT, 2, 0, 0x7F00_0000, 24, to_route(1)];
+
+/// The words of an inner place.
+fn inner(words: Vec<u32>, j: u32, mark: u32, [left, right]: [u32; 2]) -> Vec<u32> {
+    put(words, inner_at(j as usize), &[mark, left, right])
 }
 
-/// Both sides of inner places 0 to 30 lead to the next one, and the last is given: 2^32 ways down.
-fn shared(last: [u32; 3]) -> Vec<u32> {
-    let next = |words, j| inner(words, j, [j + 1, 2 * j + 4, 2 * j + 4]);
-    inner((0..31).fold(good(), next), 31, last)
+/// Both sides of inner places 0 to 30 lead to the next one, and the last one's are given: 2^32 ways down.
+fn shared(last: [u32; 2]) -> Vec<u32> {
+    let next = |words, j| inner(words, j, j + 1, [to_inner(j + 1); 2]);
+    inner((0..31).fold(good(), next), 31, 32, last)
 }
 
-/// All 96 inner places in a ring. The bits grow for 32 of them.
+/// All inner places in a ring. The bits grow for 32 of them.
 fn long_cycle() -> Vec<u32> {
-    let child = |j: u32| 2 * ((j + 1) % 96) + 2;
-    (0..96).fold(good(), |words, j| inner(words, j, [j % 32 + 1, child(j), child(j)]))
+    let child = |j: u32| to_inner((j + 1) % MOST_ROUTES);
+    (0..MOST_ROUTES).fold(good(), |words, j| inner(words, j, j % 32 + 1, [child(j); 2]))
 }
 
-/// 96 routes of one address in one chain, the lengths of which can't all fall.
+/// As many routes of one address as there are places, in one chain: more than there are lengths, so they can't all fall.
 fn long_chain() -> Vec<u32> {
     let route = |words, i: u32| {
-        let at = 8 + 8 * i as usize;
-        put(words, &[(at, 3), (at + 4, i % 33), (at + 5, 2 * ((i + 1) % 96) + 1)])
+        let next = to_route((i + 1) % MOST_ROUTES);
+        put(words, route_at(i as usize), &[REJECT, 0, 0, 0, i % 33, next])
     };
-    (0..96).fold(put(vec![0; SIZE], &[(0, 96), (1, 96), (2, 1)]), route)
+    (0..MOST_ROUTES).fold(pool(MOST_ROUTES, to_route(0), &[]), route)
 }
 
-/// A chain that goes on to place 96. Its words, those of the inner places 0 and 1, look like a good route 0.0.0.0/0, and a used
-/// place outside the tree makes up for the count: nothing else is wrong.
+/// A chain that goes on to the place behind the last. Its words, those of the inner places 0 and 1, look like a good route
+/// 0.0.0.0/0, and a used place outside the tree makes up for the count: nothing else is wrong.
 fn beyond() -> Vec<u32> {
-    let routes = [(8, 3), (12, 8), (13, 193), (16, 3), (19, 0xE000_0000), (20, 8), (48, 3)];
-    let inners = [(776, 1), (777, 1), (778, 3)];
-    put(vec![0; SIZE], &[&[(0, 96), (1, 3), (2, 2)][..], &routes, &inners].concat())
+    let rows: [(usize, &[u32]); 4] = [
+        (route_at(0), &[REJECT, 0, 0, 0, 8, to_route(MOST_ROUTES)]),
+        (route_at(1), &[REJECT, 0, 0, 0xE000_0000, 8]),
+        (route_at(5), &[REJECT]),
+        (inner_at(0), &[1, to_route(0), to_route(1)]),
+    ];
+    pool(3, to_inner(0), &rows)
 }
 
 /// Standing changes.
 fn trials() -> impl Iterator<Item = (&'static str, Vec<u32>)> {
     [
-        ("65 standing changes", standing_good(65)),
+        ("a standing change too many", standing_good(MOST_CHANGES as u32 + 1)),
         ("4294967295 standing changes", standing(u32::MAX)),
         ("a change with action 0", standing(1)),
         ("a change with action 4", change(4, 0x7F00_0001, 32)),
@@ -193,13 +239,12 @@ fn standing(count: u32) -> Vec<u32> {
 
 /// A change in a slot; its hops are reject.
 fn slot(words: Vec<u32>, k: usize, action: u32, address: u32, length: u32) -> Vec<u32> {
-    let at = CHANGES + 16 * k;
-    put(words, &[(at, action), (at + 1, address), (at + 2, length), (at + 3, 3), (at + 6, 3)])
+    put(words, ROWS[2].at(k), &[action, address, length, REJECT, 0, 0, REJECT])
 }
 
 /// The same, where each slot there is has a good change of 127.0.0.1/32 from reject to reject.
 fn standing_good(count: u32) -> Vec<u32> {
-    (0..64).fold(standing(count), |words, k| slot(words, k, 3, 0x7F00_0001, 32))
+    (0..MOST_CHANGES).fold(standing(count), |words, k| slot(words, k, 3, 0x7F00_0001, 32))
 }
 
 fn change(action: u32, address: u32, length: u32) -> Vec<u32> {

@@ -1,6 +1,7 @@
 //! Damage to a pool, as lines of `poke`. A word drawn at random hits nothing of interest most of the time, so most damage keeps
 //! to the rows of docs/POOL.md: a word or a whole row is taken from another row of the same sort, which nearly fits.
 use crate::calls::Calls;
+use crate::limits::MOST_ROUTES;
 use crate::pool::Pool;
 use crate::random::Dice;
 use crate::words::{rows, Rows};
@@ -37,16 +38,16 @@ impl Hurt {
 
     /// A row in use of each of two places of one sort, as their first words; None before a table is made.
     fn two_rows(&self, dice: &mut Dice) -> Option<(Rows, usize, usize)> {
-        let size = self.pool.size();
-        let capacity = size.checked_sub(1032)? / 12;
-        let sort = dice.of(&rows(capacity));
-        let start = |i: usize| sort.base + sort.length * i;
-        let used: Vec<usize> = (0..sort.count).map(start).filter(|&at| self.word(at) != 0).collect();
+        if self.pool.size() == 0 {
+            return None;
+        }
+        let sort = dice.of(&rows(self.word(0) as usize));
+        let used: Vec<usize> = (0..sort.count).map(|i| sort.at(i)).filter(|&at| self.word(at) != 0).collect();
         if used.is_empty() {
             return None;
         }
         // now and then a row that is not in use, which should not matter or must be seen
-        let any = start(dice.below(sort.count as u32) as usize);
+        let any = sort.at(dice.below(sort.count as u32) as usize);
         let other = dice.of(&used);
         Some((sort, if dice.one_in(4) { any } else { dice.of(&used) }, other))
     }
@@ -59,7 +60,8 @@ impl Hurt {
         let place = dice.of(&[field.unwrap_or(head), field.unwrap_or(any), field.unwrap_or(any), head, any]);
         let old = self.word(place);
         let bit = 1 << dice.below(32);
-        let small = dice.below(200);
+        // a port, a length, a bit, a link to a place of the pool or to one just behind it
+        let small = dice.below(2 * MOST_ROUTES + 8);
         let wild = dice.draw() as u32;
         let word = dice.of(&[old.wrapping_add(1), old.wrapping_sub(1), old ^ bit, small, small % 5, wild, 0, u32::MAX]);
         self.poke(place, word);

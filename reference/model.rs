@@ -1,7 +1,8 @@
 //! The second table: routes in a list in the order they came, every route tried at each question, and for a trial a pile of
 //! copies of the list. No tree, no pool, nothing in common with the proved table but document 01.
 use crate::calls::Calls;
-use crate::rules::{self, Hop, Prefix, Route, MOST_CHANGES, MOST_ROUTES};
+use crate::limits::{size, MOST_CHANGES, MOST_ROUTES};
+use crate::rules::{self, Hop, Prefix, Route};
 
 #[derive(Clone, Default)]
 pub struct Model {
@@ -178,7 +179,7 @@ impl Calls for Model {
         if capacity == 0 || capacity > MOST_ROUTES {
             0
         } else {
-            1032 + 12 * capacity
+            size(capacity) as u32
         }
     }
 

@@ -2,6 +2,7 @@
 //! refusal must leave all of them, and no call may touch those past the pool's size. What it sees wrong it keeps as a
 //! complaint, so that the answers themselves can be compared first.
 use crate::calls::Calls;
+use crate::limits::{size, MOST_ROUTES};
 use crate::rules::{Hop, Prefix, Route, NO_LENGTH};
 use std::cell::RefCell;
 
@@ -35,7 +36,7 @@ mod c {
 }
 
 /// What the console lends: the largest pool and 16 words behind it.
-pub const LENT: usize = 2184 + 16;
+pub const LENT: usize = size(MOST_ROUTES) + 16;
 /// Words behind the lent ones, which no call has any business with.
 const BEHIND: usize = 16;
 /// Stands in every word that a call has not written, and in the fields that a hop does not use.

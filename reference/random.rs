@@ -1,6 +1,7 @@
 //! Scripts of commands from a seed: the same seed gives the same script. Prefixes are drawn from a few neighbouring
 //! addresses, so that they collide, nest and share addresses; the list runs along, so that a script can name what is held.
 use crate::calls::Calls;
+use crate::limits::{LAST_PORT, MOST_ROUTES};
 use crate::model::Model;
 use crate::rules::{mask, Hop, Prefix};
 use crate::speak::{answer, dotted, hop_text, prefix_text};
@@ -50,7 +51,7 @@ struct Writer {
     near: Vec<u32>,
     // of 16 changes, how many are adds: tables fill, then empty
     adds: u32,
-    // one in so many commands ends a trial: some trials must live to 64 changes
+    // one in so many commands ends a trial: some trials must live until no further change may stand
     patience: u32,
     lines: Vec<String>,
 }
@@ -111,7 +112,8 @@ impl Writer {
 
     fn fresh(&mut self) {
         let small = self.dice.below(12) + 1;
-        let capacity = self.dice.of(&[small, small, 2, 95, 96, 96, 0, 97, u32::MAX]);
+        let most = MOST_ROUTES;
+        let capacity = self.dice.of(&[small, small, 2, most - 1, most, most, 0, most + 1, u32::MAX]);
         self.say(format!("fresh {capacity}"));
     }
 
@@ -165,7 +167,8 @@ impl Writer {
     }
 
     fn hop_words(&mut self) -> String {
-        let port = if self.dice.one_in(30) { self.dice.of(&[16, 255, u32::MAX]) } else { self.dice.below(16) };
+        let bad = [LAST_PORT + 1, 255, u32::MAX];
+        let port = if self.dice.one_in(30) { self.dice.of(&bad) } else { self.dice.below(LAST_PORT + 1) };
         let gateway = if self.dice.one_in(12) { 0 } else { self.address() };
         hop_text(self.dice.of(&[Hop::Direct(port), Hop::Via(port, gateway), Hop::Reject]))
     }
@@ -192,7 +195,7 @@ impl Writer {
             2 => "sound".to_string(),
             3 => "list".to_string(),
             4 => format!("mask {}", dotted(mask(self.dice.below(33)) ^ self.dice.of(&[0, 0, 1, 1 << 31, 1 << 9]))),
-            5 => format!("words {}", self.dice.of(&[0, 1, 4, 95, 96, 97, u32::MAX])),
+            5 => format!("words {}", self.dice.of(&[0, 1, 4, MOST_ROUTES - 1, MOST_ROUTES, MOST_ROUTES + 1, u32::MAX])),
             6 => format!("next {}", prefix_text(self.prefix())),
             7 => format!("next {}", prefix_text(self.held())),
             8 => self.dice.of(&ODD_LINES).to_string(),

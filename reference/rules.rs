@@ -1,5 +1,6 @@
 //! The rules of a prefix, a hop and a route, each by its plainest reading: a mask is made bit by bit, a match is a mask and a
 //! comparison. Nothing here is shared with the proved table.
+use crate::limits::LAST_PORT;
 
 #[derive(Clone, Copy, PartialEq, Eq, Debug)]
 pub struct Prefix {
@@ -19,9 +20,6 @@ pub struct Route {
     pub prefix: Prefix,
     pub hop: Hop,
 }
-
-pub const MOST_ROUTES: u32 = 96;
-pub const MOST_CHANGES: usize = 64;
 
 /// What stands in for the length of a mask with a hole: no prefix has it, so the call refuses it with 3 in its order.
 pub const NO_LENGTH: u32 = 33;
@@ -54,8 +52,8 @@ impl Prefix {
 impl Hop {
     pub fn good(self) -> bool {
         match self {
-            Hop::Direct(port) => port <= 15,
-            Hop::Via(port, gateway) => port <= 15 && gateway != 0,
+            Hop::Direct(port) => port <= LAST_PORT,
+            Hop::Via(port, gateway) => port <= LAST_PORT && gateway != 0,
             Hop::Reject => true,
         }
     }

@@ -1,6 +1,7 @@
 //! A second soundness test, from docs/POOL.md and document 01's sentence about a sound pool and not from the proved one: it
 //! gathers the whole tree first and then tests each sentence by brute force.
-use crate::rules::{mask, Hop, Prefix, Route, MOST_CHANGES, MOST_ROUTES};
+use crate::limits::{size, CHANGE, HEAD, INNER, MOST_CHANGES, MOST_ROUTES, ROUTE};
+use crate::rules::{mask, Hop, Prefix, Route};
 
 /// A stretch of equal rows in the words of a pool.
 #[derive(Clone, Copy, PartialEq)]
@@ -10,23 +11,29 @@ pub struct Rows {
     pub count: usize,
 }
 
-pub fn rows(capacity: usize) -> [Rows; 3] {
-    let routes = Rows { base: 8, length: 8, count: capacity };
-    let inners = Rows { base: 8 + 8 * capacity, length: 4, count: capacity };
-    let changes = Rows { base: 8 + 12 * capacity, length: 16, count: MOST_CHANGES };
+/// The route places, the inner places and the changes.
+pub const fn rows(capacity: usize) -> [Rows; 3] {
+    let routes = Rows { base: HEAD, length: ROUTE, count: capacity };
+    let inners = Rows { base: routes.at(capacity), length: INNER, count: capacity };
+    let changes = Rows { base: inners.at(capacity), length: CHANGE, count: MOST_CHANGES };
     [routes, inners, changes]
 }
 
 impl Rows {
+    /// The first word of row i.
+    pub const fn at(&self, i: usize) -> usize {
+        self.base + self.length * i
+    }
+
     fn row<'a>(&self, words: &'a [u32], i: usize) -> &'a [u32] {
-        &words[self.base + self.length * i..][..self.length]
+        &words[self.at(i)..][..self.length]
     }
 }
 
 /// The routes that the words hold, in walk order, if they are a sound pool.
 pub fn routes_if_sound(words: &[u32]) -> Option<Vec<Route>> {
     let capacity = *words.first()?;
-    let good = (1..=MOST_ROUTES).contains(&capacity) && words.len() >= 1032 + 12 * capacity as usize;
+    let good = (1..=MOST_ROUTES).contains(&capacity) && words.len() >= size(capacity);
     if !good || words[1] > capacity || words[3] > 1 || words[4] > MOST_CHANGES as u32 || (words[3] == 0 && words[4] > 0) {
         return None;
     }
