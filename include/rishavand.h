@@ -25,19 +25,32 @@
 extern "C" {
 #endif
 
+/* The largest capacity, the most changes that may stand in a trial, and the last
+ * port; the first is 0. */
+#define RISHAVAND_LARGEST_CAPACITY 96
+#define RISHAVAND_MOST_CHANGES 64
+#define RISHAVAND_LAST_PORT 15
+
+/* What rishavand_words answers for a good capacity, as a constant, for an array:
+ * 8 words, 12 for each route and 16 for each change. */
+#define RISHAVAND_WORDS(capacity) (8 + 12 * (capacity) + 16 * RISHAVAND_MOST_CHANGES)
+
+/* The words that are enough for any capacity. */
+#define RISHAVAND_MOST_WORDS RISHAVAND_WORDS(RISHAVAND_LARGEST_CAPACITY)
+
 /* What a call answers: 0 for done, or why it refused. A refusal changes no word
  * of the pool and writes no out-parameter. Where several would do, the first in
  * the order that stands at the call is given. */
 enum rishavand_number {
     RISHAVAND_DONE = 0,
-    RISHAVAND_BAD_CAPACITY = 1,     /* capacity 0 or above 96 */
+    RISHAVAND_BAD_CAPACITY = 1,     /* capacity 0 or above RISHAVAND_LARGEST_CAPACITY */
     RISHAVAND_SHORT_BUFFER = 2,     /* buffer shorter than needed */
     RISHAVAND_BAD_PREFIX = 3,       /* length above 32, a set bit past the length, or a mask with a hole */
-    RISHAVAND_BAD_HOP = 4,          /* kind above 2, port above 15, or gateway 0.0.0.0 */
+    RISHAVAND_BAD_HOP = 4,          /* no such kind, port above RISHAVAND_LAST_PORT, or gateway 0.0.0.0 */
     RISHAVAND_ALREADY_THERE = 5,    /* prefix already there */
     RISHAVAND_NOT_THERE = 6,        /* prefix not there */
     RISHAVAND_TABLE_FULL = 7,       /* routes held equal the capacity */
-    RISHAVAND_TRIAL_FULL = 8,       /* a trial is open with 64 changes standing */
+    RISHAVAND_TRIAL_FULL = 8,       /* a trial is open with RISHAVAND_MOST_CHANGES standing */
     RISHAVAND_NOT_SOUND = 9,        /* pool not sound, or too short for what it says */
     RISHAVAND_TRIAL_IS_OPEN = 10,   /* a trial is already open */
     RISHAVAND_NO_TRIAL = 11,        /* no trial is open */
@@ -63,10 +76,6 @@ enum rishavand_route_word {
     RISHAVAND_GATEWAY = 4,
     RISHAVAND_ROUTE_WORDS = 5
 };
-
-/* The largest capacity, and the words that it needs: 1,032 + 12 for each route. */
-#define RISHAVAND_LARGEST_CAPACITY 96
-#define RISHAVAND_MOST_WORDS 2184
 
 /* How many words a pool of this capacity needs; 0 for a capacity that
  * rishavand_fresh refuses. */
@@ -96,15 +105,15 @@ uint32_t rishavand_delete(uint32_t *pool, size_t words, uint32_t address, uint32
  * and does not test the whole pool: in one that is not sound it ends, stays
  * inside the pool and answers 0, 9 or 13. */
 uint32_t rishavand_lookup(const uint32_t *pool, size_t words, uint32_t destination,
-                          uint32_t route[5]);
+                          uint32_t route[RISHAVAND_ROUTE_WORDS]);
 
 /* The walk: lower addresses first, for one address the longer prefix first.
  * The first route: 0, or the first of 9, 14. */
-uint32_t rishavand_first(const uint32_t *pool, size_t words, uint32_t route[5]);
+uint32_t rishavand_first(const uint32_t *pool, size_t words, uint32_t route[RISHAVAND_ROUTE_WORDS]);
 
 /* The next route after a prefix, held or not: 0, or the first of 9, 3, 14. */
 uint32_t rishavand_next(const uint32_t *pool, size_t words, uint32_t address, uint32_t length,
-                        uint32_t route[5]);
+                        uint32_t route[RISHAVAND_ROUTE_WORDS]);
 
 /* How many routes the table still takes. 0 or 9. */
 uint32_t rishavand_room(const uint32_t *pool, size_t words, uint32_t room[1]);
@@ -117,7 +126,7 @@ uint32_t rishavand_mask_length(uint32_t mask, uint32_t length[1]);
 uint32_t rishavand_masked(uint32_t mask);
 
 /* Opens a trial: from here on each accepted add, delete and change is recorded,
- * at most 64. 0, or the first of 9, 10. */
+ * at most RISHAVAND_MOST_CHANGES. 0, or the first of 9, 10. */
 uint32_t rishavand_open(uint32_t *pool, size_t words);
 
 /* Keeps the trial's changes and closes it. 0, or the first of 9, 11. */

@@ -26,6 +26,8 @@ static const uint32_t bsdi[][RISHAVAND_ROUTE_WORDS] = {
     {IP(140, 252, 13, 34), 32, RISHAVAND_DIRECT, 0, 0},
 };
 
+enum { ROUTES = sizeof bsdi / sizeof bsdi[0] };
+
 static void print_address(uint32_t a)
 {
     printf("%" PRIu32 ".%" PRIu32 ".%" PRIu32 ".%" PRIu32, a >> 24, (a >> 16) & 255, (a >> 8) & 255,
@@ -107,9 +109,9 @@ static void mask(uint32_t m)
 static void filled(void)
 {
     size_t i;
-    printf("words for 11 routes: %lu\n", (unsigned long)rishavand_words(11));
-    printf("fresh: %" PRIu32 "\n", rishavand_fresh(pool, words, 11));
-    for (i = 0; i < sizeof bsdi / sizeof bsdi[0]; i++) {
+    printf("words for %d routes: %lu\n", ROUTES, (unsigned long)rishavand_words(ROUTES));
+    printf("fresh: %" PRIu32 "\n", rishavand_fresh(pool, words, ROUTES));
+    for (i = 0; i < ROUTES; i++) {
         printf("add ");
         print_route(bsdi[i]);
         printf(": %" PRIu32 "\n", add(bsdi[i]));
@@ -137,12 +139,18 @@ static void asked(void)
 static void refused(void)
 {
     static uint32_t bare[4];
-    printf("no words: %lu %lu\n", (unsigned long)rishavand_words(0), (unsigned long)rishavand_words(97));
-    printf("fresh, capacity 97: %" PRIu32 "\n", rishavand_fresh(bare, 4, 97));
+    printf("words as in the header: %d\n",
+           rishavand_words(RISHAVAND_LARGEST_CAPACITY) == RISHAVAND_MOST_WORDS);
+    printf("no words: %lu %lu\n", (unsigned long)rishavand_words(0),
+           (unsigned long)rishavand_words(RISHAVAND_LARGEST_CAPACITY + 1));
+    printf("fresh, above the largest capacity: %" PRIu32 "\n",
+           rishavand_fresh(bare, 4, RISHAVAND_LARGEST_CAPACITY + 1));
     printf("fresh, 4 words: %" PRIu32 "\n", rishavand_fresh(bare, 4, 1));
     printf("sound: %" PRIu32 " %" PRIu32 "\n", rishavand_sound(pool, words), rishavand_sound(bare, 4));
-    printf("add to what is no pool: %" PRIu32 "\n", rishavand_add(bare, 4, 0, 33, 3, 16, 0));
-    printf("add a length of 33: %" PRIu32 "\n", rishavand_add(pool, words, 0, 33, 3, 16, 0));
+    printf("add to what is no pool: %" PRIu32 "\n",
+           rishavand_add(bare, 4, 0, 33, 3, RISHAVAND_LAST_PORT + 1, 0));
+    printf("add a length of 33: %" PRIu32 "\n",
+           rishavand_add(pool, words, 0, 33, 3, RISHAVAND_LAST_PORT + 1, 0));
     printf("delete by a mask with a hole, there and in what is no pool: %" PRIu32 " %" PRIu32 "\n",
            rishavand_delete(pool, words, IP(127, 0, 0, 0), rishavand_masked(IP(255, 0, 255, 0))),
            rishavand_delete(bare, 4, IP(127, 0, 0, 0), rishavand_masked(IP(255, 0, 255, 0))));
@@ -162,8 +170,8 @@ static void tried(void)
     printf("open again: %" PRIu32 "\n", rishavand_open(pool, words));
     printf("step back: %" PRIu32 "\n", rishavand_step_back(pool, words));
     printf("delete 0.0.0.0/0: %" PRIu32 "\n", rishavand_delete(pool, words, 0, 0));
-    printf("change 127.0.0.0/8 to direct 15: %" PRIu32 "\n",
-           rishavand_change(pool, words, IP(127, 0, 0, 0), 8, RISHAVAND_DIRECT, 15, 99));
+    printf("change 127.0.0.0/8 to direct %d: %" PRIu32 "\n", RISHAVAND_LAST_PORT,
+           rishavand_change(pool, words, IP(127, 0, 0, 0), 8, RISHAVAND_DIRECT, RISHAVAND_LAST_PORT, 99));
     lookup(IP(127, 0, 0, 2));
     lookup(IP(10, 1, 2, 3));
     printf("step back: %" PRIu32 "\n", rishavand_step_back(pool, words));
