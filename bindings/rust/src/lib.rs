@@ -21,11 +21,13 @@
 //! # Ok::<(), rishavand::Refusal>(())
 //! ```
 
+mod limits;
 mod pool;
 mod raw;
 mod trial;
 mod types;
 
-pub use pool::{words_for, Pool, Routes, LARGEST_CAPACITY, MOST_WORDS};
+pub use limits::{size, words_for, LARGEST_CAPACITY, LAST_PORT, MOST_CHANGES, MOST_WORDS};
+pub use pool::{Pool, Routes};
 pub use trial::Trial;
 pub use types::{mask_length, Hop, Prefix, Refusal, Route};

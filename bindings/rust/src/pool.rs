@@ -6,21 +6,6 @@ use crate::raw;
 use crate::trial::Trial;
 use crate::types::{Prefix, Refusal, Route};
 
-/// The largest capacity.
-pub const LARGEST_CAPACITY: u32 = 96;
-
-/// The words that the largest capacity needs.
-pub const MOST_WORDS: usize = 2184;
-
-/// How many words a table of this capacity needs; `None` for a capacity that [`Pool::fresh`] refuses.
-pub fn words_for(capacity: u32) -> Option<usize> {
-    // SAFETY: the function takes and gives numbers alone.
-    match unsafe { raw::rishavand_words(capacity) } {
-        0 => None,
-        words => Some(words),
-    }
-}
-
 /// A sound table in words that are lent whole: nobody else reads or writes them while it lives.
 #[derive(Debug)]
 pub struct Pool<'a> {

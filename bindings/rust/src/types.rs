@@ -4,6 +4,7 @@ use std::error::Error;
 use std::fmt;
 use std::net::Ipv4Addr;
 
+use crate::limits::{LARGEST_CAPACITY, LAST_PORT, MOST_CHANGES};
 use crate::raw;
 
 /// An address and how many of its bits count. Whether the table may hold it is the table's to say: see
@@ -110,13 +111,13 @@ impl Route {
 #[derive(Clone, Copy, Debug, PartialEq, Eq, Hash)]
 #[repr(u32)]
 pub enum Refusal {
-    /// Capacity 0 or above 96.
+    /// Capacity 0 or above [`LARGEST_CAPACITY`].
     BadCapacity = 1,
     /// A buffer shorter than needed.
     ShortBuffer = 2,
     /// A length above 32, a set bit past the length, or a mask with a hole.
     BadPrefix = 3,
-    /// A port above 15, or gateway 0.0.0.0.
+    /// A port above [`LAST_PORT`], or gateway 0.0.0.0.
     BadHop = 4,
     /// The prefix is already there.
     AlreadyThere = 5,
@@ -124,7 +125,7 @@ pub enum Refusal {
     NotThere = 6,
     /// The routes held equal the capacity.
     TableFull = 7,
-    /// A trial is open with 64 changes standing.
+    /// A trial is open with [`MOST_CHANGES`] standing.
     TrialFull = 8,
     /// The pool is not sound, or too short for what it says.
     NotSound = 9,
@@ -173,24 +174,27 @@ impl Refusal {
         Err(refusal.expect("a number from 0 to 14"))
     }
 
-    fn reason(self) -> &'static str {
+    fn reason(self, f: &mut fmt::Formatter<'_>) -> fmt::Result {
         match self {
-            Refusal::BadCapacity => "capacity 0 or above 96",
-            Refusal::ShortBuffer => "buffer shorter than needed",
+            Refusal::BadCapacity => write!(f, "capacity 0 or above {LARGEST_CAPACITY}"),
+            Refusal::ShortBuffer => write!(f, "buffer shorter than needed"),
             Refusal::BadPrefix => {
-                "length above 32, a set bit past the length, or a mask with a hole"
+                write!(
+                    f,
+                    "length above 32, a set bit past the length, or a mask with a hole"
+                )
             }
-            Refusal::BadHop => "port above 15, or gateway 0.0.0.0",
-            Refusal::AlreadyThere => "prefix already there",
-            Refusal::NotThere => "prefix not there",
-            Refusal::TableFull => "routes held equal the capacity",
-            Refusal::TrialFull => "a trial is open with 64 changes standing",
-            Refusal::NotSound => "pool not sound, or too short for what it says",
-            Refusal::TrialIsOpen => "a trial is already open",
-            Refusal::NoTrial => "no trial is open",
-            Refusal::NothingStanding => "trial open, nothing standing",
-            Refusal::NoMatch => "no route matches",
-            Refusal::NoFurther => "no further route",
+            Refusal::BadHop => write!(f, "port above {LAST_PORT}, or gateway 0.0.0.0"),
+            Refusal::AlreadyThere => write!(f, "prefix already there"),
+            Refusal::NotThere => write!(f, "prefix not there"),
+            Refusal::TableFull => write!(f, "routes held equal the capacity"),
+            Refusal::TrialFull => write!(f, "a trial is open with {MOST_CHANGES} changes standing"),
+            Refusal::NotSound => write!(f, "pool not sound, or too short for what it says"),
+            Refusal::TrialIsOpen => write!(f, "a trial is already open"),
+            Refusal::NoTrial => write!(f, "no trial is open"),
+            Refusal::NothingStanding => write!(f, "trial open, nothing standing"),
+            Refusal::NoMatch => write!(f, "no route matches"),
+            Refusal::NoFurther => write!(f, "no further route"),
         }
     }
 }
@@ -219,7 +223,8 @@ impl fmt::Display for Route {
 
 impl fmt::Display for Refusal {
     fn fmt(&self, f: &mut fmt::Formatter<'_>) -> fmt::Result {
-        write!(f, "{}: {}", self.number(), self.reason())
+        write!(f, "{}: ", self.number())?;
+        self.reason(f)
     }
 }
 

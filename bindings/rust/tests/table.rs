@@ -1,7 +1,8 @@
 //! The rules, seen through the types of this crate.
 
 use rishavand::{
-    mask_length, words_for, Hop, Pool, Prefix, Refusal, Route, LARGEST_CAPACITY, MOST_WORDS,
+    mask_length, size, words_for, Hop, Pool, Prefix, Refusal, Route, LARGEST_CAPACITY, LAST_PORT,
+    MOST_CHANGES, MOST_WORDS,
 };
 
 const ONE: Hop = Hop::Direct { port: 1 };
@@ -17,7 +18,7 @@ fn ten(hop: Hop) -> Route {
 #[test]
 fn words_follow_the_formula() {
     for capacity in 1..=LARGEST_CAPACITY {
-        assert_eq!(words_for(capacity), Some(1032 + 12 * capacity as usize));
+        assert_eq!(words_for(capacity), Some(size(capacity)));
     }
     assert_eq!(words_for(LARGEST_CAPACITY), Some(MOST_WORDS));
     assert_eq!(words_for(0), None);
@@ -28,27 +29,30 @@ fn words_follow_the_formula() {
 #[test]
 fn fresh_refuses_in_order() {
     assert_eq!(Pool::fresh(&mut [], 0).err(), Some(Refusal::BadCapacity));
-    assert_eq!(Pool::fresh(&mut [], 97).err(), Some(Refusal::BadCapacity));
+    assert_eq!(
+        Pool::fresh(&mut [], LARGEST_CAPACITY + 1).err(),
+        Some(Refusal::BadCapacity)
+    );
     assert_eq!(Pool::fresh(&mut [], 1).err(), Some(Refusal::ShortBuffer));
     assert_eq!(
-        Pool::fresh(&mut [7; 1043], 1).err(),
+        Pool::fresh(&mut [7; size(1) - 1], 1).err(),
         Some(Refusal::ShortBuffer)
     );
-    assert!(Pool::fresh(&mut [7; 1044], 1).is_ok());
+    assert!(Pool::fresh(&mut [7; size(1)], 1).is_ok());
 }
 
 #[test]
 fn words_past_the_pool_stay() {
-    let mut words = [7; 1050];
+    let mut words = [7; size(1) + 6];
     let mut pool = Pool::fresh(&mut words, 1).unwrap();
     pool.add(ten(ONE)).unwrap();
-    assert_eq!(words[1044..], [7; 6]);
+    assert_eq!(words[size(1)..], [7; 6]);
 }
 
 #[test]
 fn only_a_sound_pool_is_opened() {
     assert_eq!(Pool::open(&mut []).err(), Some(Refusal::NotSound));
-    let mut words = [0; 1056];
+    let mut words = [0; size(2)];
     assert_eq!(Pool::open(&mut words).err(), Some(Refusal::NotSound));
     Pool::fresh(&mut words, 2).unwrap().add(ten(ONE)).unwrap();
     assert_eq!(
@@ -64,7 +68,7 @@ fn every_kind_of_hop_comes_back_as_it_went_in() {
     let mut words = [0; MOST_WORDS];
     let mut pool = Pool::fresh(&mut words, 3).unwrap();
     let via = Hop::Via {
-        port: 15,
+        port: LAST_PORT,
         gateway: [10, 0, 0, 1].into(),
     };
     let routes = [
@@ -85,7 +89,9 @@ fn every_kind_of_hop_comes_back_as_it_went_in() {
 fn adds_are_refused_in_order() {
     let mut words = [0; MOST_WORDS];
     let mut pool = Pool::fresh(&mut words, 1).unwrap();
-    let bad = Hop::Direct { port: 16 };
+    let bad = Hop::Direct {
+        port: LAST_PORT + 1,
+    };
     let nowhere = Hop::Via {
         port: 0,
         gateway: [0, 0, 0, 0].into(),
@@ -179,12 +185,12 @@ fn a_kept_trial_stays() {
 }
 
 #[test]
-fn a_trial_takes_64_changes() {
+fn a_full_trial_takes_no_further_change() {
     let mut words = [0; MOST_WORDS];
     let mut pool = Pool::fresh(&mut words, 1).unwrap();
     pool.add(ten(ONE)).unwrap();
     let mut trial = pool.trial().unwrap();
-    for _ in 0..64 {
+    for _ in 0..MOST_CHANGES {
         trial.change(ten(ONE)).unwrap();
     }
     assert_eq!(trial.change(ten(ONE)), Err(Refusal::TrialFull));
@@ -236,4 +242,8 @@ fn a_refusal_says_its_number() {
     assert_eq!(Refusal::BadCapacity.number(), 1);
     assert_eq!(Refusal::NoFurther.number(), 14);
     assert_eq!(Refusal::NoTrial.to_string(), "11: no trial is open");
+    assert_eq!(
+        Refusal::BadCapacity.to_string(),
+        format!("1: capacity 0 or above {LARGEST_CAPACITY}")
+    );
 }
