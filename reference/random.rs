@@ -4,7 +4,7 @@ use crate::calls::Calls;
 use crate::limits::{LAST_PORT, MOST_ROUTES};
 use crate::model::Model;
 use crate::rules::{mask, Hop, Prefix};
-use crate::speak::{answer, dotted, hop_text, prefix_text};
+use crate::speak::{answer, dotted};
 
 /// Splitmix: small, and good enough to draw from.
 pub struct Dice(pub u64);
@@ -160,7 +160,7 @@ impl Writer {
     /// With a length, or now and then with a mask, and sometimes the mask has a hole.
     fn prefix_words(&mut self, prefix: Prefix) -> String {
         if prefix.length > 32 || !self.dice.one_in(8) {
-            return prefix_text(prefix);
+            return prefix.to_string();
         }
         let hole = if self.dice.one_in(6) { 1 << self.dice.below(32) } else { 0 };
         format!("{} mask {}", dotted(prefix.address), dotted(mask(prefix.length) ^ hole))
@@ -170,7 +170,7 @@ impl Writer {
         let bad = [LAST_PORT + 1, 255, u32::MAX];
         let port = if self.dice.one_in(30) { self.dice.of(&bad) } else { self.dice.below(LAST_PORT + 1) };
         let gateway = if self.dice.one_in(12) { 0 } else { self.address() };
-        hop_text(self.dice.of(&[Hop::Direct(port), Hop::Via(port, gateway), Hop::Reject]))
+        self.dice.of(&[Hop::Direct(port), Hop::Via(port, gateway), Hop::Reject]).to_string()
     }
 
     fn change(&mut self) {
@@ -196,8 +196,8 @@ impl Writer {
             3 => "list".to_string(),
             4 => format!("mask {}", dotted(mask(self.dice.below(33)) ^ self.dice.of(&[0, 0, 1, 1 << 31, 1 << 9]))),
             5 => format!("words {}", self.dice.of(&[0, 1, 4, MOST_ROUTES - 1, MOST_ROUTES, MOST_ROUTES + 1, u32::MAX])),
-            6 => format!("next {}", prefix_text(self.prefix())),
-            7 => format!("next {}", prefix_text(self.held())),
+            6 => format!("next {}", self.prefix()),
+            7 => format!("next {}", self.held()),
             8 => self.dice.of(&ODD_LINES).to_string(),
             _ => format!("lookup {}", dotted(self.address())),
         };

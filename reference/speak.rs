@@ -2,28 +2,35 @@
 use crate::calls::Calls;
 use crate::language::{command, Command};
 use crate::rules::{Hop, Prefix, Route};
+use std::fmt;
 
 pub fn dotted(address: u32) -> String {
     address.to_be_bytes().map(|byte| byte.to_string()).join(".")
 }
 
-pub fn prefix_text(prefix: Prefix) -> String {
-    format!("{}/{}", dotted(prefix.address), prefix.length)
-}
-
-pub fn hop_text(hop: Hop) -> String {
-    match hop {
-        Hop::Direct(port) => format!("direct {port}"),
-        Hop::Via(port, gateway) => format!("via {port} {}", dotted(gateway)),
-        Hop::Reject => "reject".to_string(),
+impl fmt::Display for Prefix {
+    fn fmt(&self, f: &mut fmt::Formatter) -> fmt::Result {
+        write!(f, "{}/{}", dotted(self.address), self.length)
     }
 }
 
-fn route_text(route: Route) -> String {
-    format!("{} {}", prefix_text(route.prefix), hop_text(route.hop))
+impl fmt::Display for Hop {
+    fn fmt(&self, f: &mut fmt::Formatter) -> fmt::Result {
+        match self {
+            Hop::Direct(port) => write!(f, "direct {port}"),
+            Hop::Via(port, gateway) => write!(f, "via {port} {}", dotted(*gateway)),
+            Hop::Reject => write!(f, "reject"),
+        }
+    }
 }
 
-fn with_value(answer: Result<String, u32>) -> String {
+impl fmt::Display for Route {
+    fn fmt(&self, f: &mut fmt::Formatter) -> fmt::Result {
+        write!(f, "{} {}", self.prefix, self.hop)
+    }
+}
+
+fn with_value(answer: Result<impl fmt::Display, u32>) -> String {
     answer.map_or_else(|number| number.to_string(), |value| format!("0 {value}"))
 }
 
@@ -35,7 +42,7 @@ fn list(table: &impl Calls) -> Result<String, u32> {
     let mut route = table.first();
     while let Ok(found) = route {
         held += 1;
-        lines += &format!("\n{}", route_text(found));
+        lines += &format!("\n{found}");
         route = table.next(found.prefix);
     }
     Ok(format!("routes {held} of {}{lines}", held + room))
@@ -47,11 +54,11 @@ fn obey(table: &mut impl Calls, said: Command) -> Result<String, &'static str> {
         Command::Add(prefix, hop) => table.add(prefix, hop).to_string(),
         Command::Change(prefix, hop) => table.change(prefix, hop).to_string(),
         Command::Delete(prefix) => table.delete(prefix).to_string(),
-        Command::Lookup(destination) => with_value(table.lookup(destination).map(route_text)),
-        Command::First => with_value(table.first().map(route_text)),
-        Command::Next(after) => with_value(table.next(after).map(route_text)),
-        Command::Room => with_value(table.room().map(|room| room.to_string())),
-        Command::Mask(word) => with_value(table.mask_length(word).map(|length| length.to_string())),
+        Command::Lookup(destination) => with_value(table.lookup(destination)),
+        Command::First => with_value(table.first()),
+        Command::Next(after) => with_value(table.next(after)),
+        Command::Room => with_value(table.room()),
+        Command::Mask(word) => with_value(table.mask_length(word)),
         Command::Open => table.open().to_string(),
         Command::Keep => table.keep().to_string(),
         Command::Back => table.back_out().to_string(),
