@@ -6,14 +6,18 @@
 //!     fuzz --named             the damaged pools that have a name
 mod calls;
 mod damage;
+mod guarded;
 mod hostile;
 mod hurt;
+mod interface;
 mod language;
 mod limits;
 mod model;
+mod past;
 mod pool;
 mod random;
 mod rules;
+mod shrink;
 mod speak;
 mod words;
 
@@ -34,20 +38,20 @@ fn lines_of(seed: u64) -> Vec<String> {
     let count = dice.below(longest) + 5;
     let mut lines = random::script(dice.draw(), count as usize);
     if seed % 2 == 1 {
-        let mut pool = Pool::new();
+        let mut pool = Pool::new(seed);
         run(&mut pool, &lines);
         lines.extend(damage_of(&pool, &mut dice));
     }
     lines
 }
 
-/// Of many ways to damage a pool, the first of which the two soundness tests think differently, or else any: the soundness
-/// test is the gate that all other calls stand behind, so it is tried most.
+/// Of many ways to damage a pool, the first of which the two soundness tests think differently or that there is a complaint
+/// about, or else any: the soundness test is the gate that all other calls stand behind, so it is tried most.
 fn damage_of(pool: &Pool, dice: &mut Dice) -> Vec<String> {
     let mut chosen = vec![];
     for _ in 0..DAMAGES {
         let (hurt, lines) = hurt::damaged(pool, dice);
-        if hurt.sound() != words::routes_if_sound(hurt.words_lent()).is_some() {
+        if hurt.sound() != words::routes_if_sound(hurt.words_lent()).is_some() || hurt.complaint().is_some() {
             return lines;
         }
         if chosen.is_empty() || dice.one_in(8) {
@@ -72,13 +76,13 @@ enum Kind {
 }
 
 /// The script alone, answer by answer; nothing to compare where the pool is damaged.
-fn script_agrees(lines: &[String], _seed: u64) -> Result<Kind, String> {
-    damage::agree(&mut Pool::new(), &mut model::Model::default(), lines).map(|()| Kind::Script)
+fn script_agrees(lines: &[String], seed: u64) -> Result<Kind, String> {
+    damage::agree(&mut Pool::new(seed), &mut model::Model::default(), lines).map(|()| Kind::Script)
 }
 
 /// What the pool owes that the script leaves.
 fn pool_keeps(lines: &[String], seed: u64) -> Result<Kind, String> {
-    let mut pool = Pool::new();
+    let mut pool = Pool::new(seed);
     run(&mut pool, lines);
     damage::check(&pool, seed)?;
     Ok(if pool.sound() { Kind::StillSound } else { Kind::NotSound })
@@ -86,25 +90,6 @@ fn pool_keeps(lines: &[String], seed: u64) -> Result<Kind, String> {
 
 /// One of the two above: a shorter script must fail the same test.
 type Test = fn(&[String], u64) -> Result<Kind, String>;
-
-/// Leaves out as much as it can, in ever smaller pieces, while something still goes wrong.
-fn shrink(mut lines: Vec<String>, seed: u64, test: Test) -> Vec<String> {
-    let mut piece = lines.len().div_ceil(2);
-    while piece > 0 {
-        let mut start = 0;
-        while start < lines.len() {
-            let end = (start + piece).min(lines.len());
-            let without = [&lines[..start], &lines[end..]].concat();
-            if test(&without, seed).is_err() {
-                lines = without;
-            } else {
-                start = end;
-            }
-        }
-        piece /= 2;
-    }
-    lines
-}
 
 /// None if something went wrong; it is told.
 fn try_round(seed: u64) -> Option<Kind> {
@@ -126,7 +111,7 @@ fn try_round(seed: u64) -> Option<Kind> {
 }
 
 fn report(lines: &[String], seed: u64, test: Test) {
-    let shortest = shrink(lines.to_vec(), seed, test);
+    let shortest = shrink::shrink(lines.to_vec(), |without| test(without, seed).is_err());
     let wrong = test(&shortest, seed).err().unwrap_or_default();
     println!("fuzz: seed {seed}: {wrong}\nthe shortest script found:");
     shortest.iter().for_each(|line| println!("    {line}"));
