@@ -30,8 +30,8 @@ fn note(pool: &mut [u32], capacity: usize, action: u32, prefix: Prefix, old: Hop
     requires { ⌜ (layout.trialIn (now pool) ≡ 1 → layout.standingIn (now pool) < 64) ⌝ }
     ensures { λ _. ⌜ Noted ipv4 capacity action (prefixOf prefix) (hopOf old) (hopOf new) (now (pool .entry)) (now (pool .exit)) ⌝ }
 {
-    if pool[3] == 1 {
-        trial::record_change(pool, capacity, action, prefix, old, new);
+    if pool[pool::AT_TRIAL] == 1 {
+        trial_rows::record_change(pool, capacity, action, prefix, old, new);
     }
 }
 
@@ -77,7 +77,7 @@ pub fn open(pool: &mut [u32], capacity: usize)
     requires { ⌜ Accepted ipv4 capacity call.openTrial (now pool) ⌝ }
     ensures { λ _. ⌜ Does ipv4 capacity call.openTrial (now (pool .entry)) (now (pool .exit)) ⌝ }
 {
-    trial::write_head(pool, 1, 0);
+    trial_rows::write_head(pool, 1, 0);
 }
 
 // A trial kept: the routes stay, and nothing can be taken back any more.
@@ -86,5 +86,5 @@ pub fn keep(pool: &mut [u32], capacity: usize)
     requires { ⌜ Accepted ipv4 capacity call.keep (now pool) ⌝ }
     ensures { λ _. ⌜ Does ipv4 capacity call.keep (now (pool .entry)) (now (pool .exit)) ⌝ }
 {
-    trial::write_head(pool, 0, 0);
+    trial_rows::write_head(pool, 0, 0);
 }

@@ -10,11 +10,11 @@ use Rattle.pool.specs.Holds.{Seat, bare}
 use Rattle.pool.specs.Means.{routesUsed, innersUsed}
 use Rattle.pool.proofs.Frame.{routes-in-pool, inners-in-pool}
 use Rattle.shape.specs.Tree.{RootFine}
-use Rattle.marks.specs.Marks.{isUsed}
-use Rattle.marks.specs.declared.Sort.{Sort}
+use Rattle.places.specs.Marks.{isUsed}
+use Rattle.places.specs.declared.Sort.{Sort}
 use Rattle.pool.proofs.Places.{route-used, inner-used}
 use Rattle.pool.proofs.Distinct.{routes-distinct, inners-distinct}
-use Rattle.marks.proofs.Tally.{Picked, passes}
+use Rattle.places.proofs.Tally.{Picked, passes}
 
 module _ {P : Type 0} (L : Layout P) (c : ℕ) (ws : List ℕ) where
   pub routes-picked : (t : Root ℕ (Seat P)) → RootFine L c ws t → Picked (isUsed L c ws Sort.Route) c (routesUsed t)

@@ -19,10 +19,10 @@ use Rattle.pool.proofs.Unique.{root-unique}
 use Rattle.pool.specs.Fit.{Fit}
 use Rattle.audit.specs.Head.{HeadFine}
 use Rattle.shape.specs.Tree.{RootFine}
-use Rattle.marks.specs.Marks.{tally, isUsed}
-use Rattle.marks.specs.declared.Sort.{Sort}
+use Rattle.places.specs.Marks.{tally, isUsed}
+use Rattle.places.specs.declared.Sort.{Sort}
 use Rattle.standing.specs.Changes.{decoded, ChangesFine, Tabled, BackSays}
-use Rattle.marks.proofs.Tally.{tally-le, passes, passed, has-all, all-there}
+use Rattle.places.proofs.Tally.{tally-le, passes, passed, has-all, all-there}
 use Rattle.pool.proofs.Places.{route-count}
 use Rattle.audit.proofs.Places.{routes-picked, inners-picked}
 use Rattle.standing.proofs.Recording.{decoded-length, recorded-is, fine-recorded, recorded-fine}

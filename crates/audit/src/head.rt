@@ -16,14 +16,14 @@ pub fn head_is_good(pool: &[u32], capacity: usize) -> bool
     if pool::wide(pool::LIMIT) < capacity {
         return false;
     }
-    if pool::wide(pool[0]) != capacity {
+    if pool::wide(pool[pool::AT_CAPACITY]) != capacity {
         return false;
     }
-    let trial = pool[3];
+    let trial = pool[pool::AT_TRIAL];
     if 1 < trial {
         return false;
     }
-    let standing = pool::wide(pool[4]);
+    let standing = pool::wide(pool[pool::AT_STANDING]);
     if pool::CHANGES < standing {
         return false;
     }

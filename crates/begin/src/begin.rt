@@ -33,6 +33,6 @@ pub fn fresh(pool: &mut [u32], capacity: u32) -> Done
         return Done::Refused(Refusal::ShortBuffer);
     }
     clear(&mut pool[..own]);
-    pool[0] = capacity;
+    pool[pool::AT_CAPACITY] = capacity;
     Done::Yes
 }

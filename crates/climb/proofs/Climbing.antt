@@ -24,17 +24,18 @@ use Rattle.pool.specs.Holds.{Seat, Seated, bare, bareRoot, bareEntry, bareEntri
 use Rattle.pool.specs.declared.link.Place.{Place}
 use Rattle.search.specs.Chain.{HungRight}
 use Rattle.search.specs.Down.{Kept, EndsAt, Ways}
-use Rattle.climb.specs.Says.{Says}
-use Rattle.climb.specs.Climb.{Rises, leftLeaf, Leftmost, Climbs, Looks}
-use Rattle.climb.specs.declared.climb.Rise as rise
-use Rattle.climb.specs.declared.climb.Edge as edge
+use Rattle.search.specs.Says.{Says}
+use Rattle.search.specs.Edge.{Rises, leftLeaf, Leftmost}
+use Rattle.climb.specs.Climb.{Climbs, Looks}
+use Rattle.search.specs.declared.edge.Rise as rise
+use Rattle.search.specs.declared.edge.Edge as edge
 use Rattle.search.specs.declared.descent.End as end
 use Rattle.search.specs.declared.exact.Hung as hungs
 use Rattle.search.proofs.Bare.{bareWay, bare-follows, bare-longest}
 use Rattle.search.proofs.Led.{led-not-empty, led-not-damaged, led-chain, led-bare, led-longest}
 use Rattle.search.proofs.Chain.{Behind, route-there, prefix-there, behind-start, behind-next, behind-last, behind-length}
-use Rattle.climb.proofs.Left.{left-good}
-use Rattle.climb.proofs.Rise.{sideOf, WayHeld, part-held, rise-top, rise-at}
+use Rattle.search.proofs.Left.{left-good}
+use Rattle.search.proofs.Rise.{sideOf, WayHeld, part-held, rise-top, rise-at}
 
 module _ {P : Type 0} (L : Layout P) where
   -- ---- along the routes of one leaf

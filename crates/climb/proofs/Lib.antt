@@ -1,3 +1,1 @@
-pub mod Left
-pub mod Rise
 pub mod Climbing

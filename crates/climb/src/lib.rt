@@ -2,8 +2,4 @@
 // anything: every place is tested before it is used, every loop ends, and what no sound pool has is answered as damage.
 mod climb;
 
-pub use climb::Edge;
-pub use climb::Rise;
-pub use climb::ascend;
-pub use climb::leftmost;
-pub use climb::lookup;
+pub use climb::longest_match;

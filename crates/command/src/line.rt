@@ -1,4 +1,8 @@
 use super::asked::Command;
+use super::phrase::TakenPrefix;
+use super::phrase::TakenRoute;
+use super::phrase::take_prefix;
+use super::phrase::take_route;
 use check::same;
 use numeral::Fault;
 use numeral::Taken;
@@ -7,10 +11,6 @@ use numeral::take_address;
 use numeral::take_number;
 use numeral::uncommented;
 use numeral::word_at;
-use phrase::TakenPrefix;
-use phrase::TakenRoute;
-use phrase::take_prefix;
-use phrase::take_route;
 
 // A command whose last word was read: another word is one too many.
 fn last(line: &[u8], end: usize, command: Command) -> Command {

@@ -20,8 +20,8 @@ use Rattle.pool.specs.Write.{writes}
 use Rattle.rows.specs.Writes.{firstWrites, hangWrites, joinWrites, linkWrites, dropWrites, lastWrites, swapWrites}
 use Rattle.plan.specs.Plan.{PutRight, JoinsAt, HeldThere, TakenAt}
 use Rattle.plan.specs.Planned.{HeldRight, TakeRight}
-use Rattle.marks.specs.Marks.{Spare, FreePlace}
-use Rattle.marks.specs.declared.Sort.{Sort}
+use Rattle.places.specs.Marks.{Spare, FreePlace}
+use Rattle.places.specs.declared.Sort.{Sort}
 use Rattle.pool.specs.Fit.{Fit}
 use Rattle.pool.proofs.Laid.{Laid}
 use Rattle.edit.specs.Encodes.{Encodes, ToPut, ToTake}

@@ -14,8 +14,8 @@ use Rattle.pool.specs.Holds.{Seat, Seated, bare, bareRoot, innerPlaces, Holds, 
 use Rattle.pool.specs.Means.{routesUsed, innersUsed}
 use Rattle.pool.proofs.Places.{route-count}
 use Rattle.pool.proofs.Few.{every-among}
-use Rattle.marks.specs.Marks.{Spare}
-use Rattle.marks.specs.declared.Sort.{Sort}
+use Rattle.places.specs.Marks.{Spare}
+use Rattle.places.specs.declared.Sort.{Sort}
 use Rattle.edit.specs.Encodes.{Encodes}
 
 module _ {P : Type 0} (L : Layout P) where

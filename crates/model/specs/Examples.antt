@@ -107,5 +107,5 @@ examples =
 -- What the model answers. The capacity is document 01's largest, and what a capacity needs in words is asked by none of these.
 abbrev pub answered : (ℕ → ℕ) → Example → ℕ × Value Hop
 answered words e =
-    let m : Meaning Hop = some (record { capacity = 96; routes = e .routes; trial = closed }) in
+    let m : Meaning Hop = some (record { capacity = ipv4 words .limit; routes = e .routes; trial = closed }) in
     (number (ipv4 words) (e .call) m, value (ipv4 words) (e .call) m)

@@ -5,15 +5,10 @@ ghost use Rattle.plan.specs.Steps.{WayUsable, CellRight, LevelRight, Cha
 use pool::Place;
 use route::Length;
 use search::Hung;
+use search::Steps;
 
 // A place does not say which side the way took, so the address's bit says it again.
-pub fn cell_of(
-    pool: &[u32],
-    capacity: usize,
-    inner: [usize; 32],
-    depth: usize,
-    address: u32,
-) -> usize
+pub fn cell_of(pool: &[u32], capacity: usize, inner: Steps, depth: usize, address: u32) -> usize
     requires { ⌜ Fit ipv4 capacity (now pool) ⌝ }
     requires { ⌜ WayUsable ipv4 capacity (now pool) inner depth ⌝ }
     ensures { λ r. ⌜ CellRight ipv4 capacity (now (pool .entry)) inner depth address r ⌝ }
@@ -28,13 +23,7 @@ pub fn cell_of(
 }
 
 // The bits grow down the way, so the first place that tests a later bit ends the count.
-pub fn level_of(
-    pool: &[u32],
-    capacity: usize,
-    inner: [usize; 32],
-    depth: usize,
-    index: u32,
-) -> usize
+pub fn level_of(pool: &[u32], capacity: usize, inner: Steps, depth: usize, index: u32) -> usize
     requires { ⌜ Fit ipv4 capacity (now pool) ⌝ }
     requires { ⌜ WayUsable ipv4 capacity (now pool) inner depth ⌝ }
     ensures { λ r. ⌜ LevelRight ipv4 capacity (now (pool .entry)) inner depth index r ⌝ }
@@ -59,11 +48,11 @@ pub fn chain_cell(pool: &[u32], capacity: usize, from: usize, first: Place, leng
     let mut cell = from;
     let mut place = first;
     loop {
-        let held = pool::prefix_at(pool, pool::seat(place) + 3);
+        let held = pool::prefix_at(pool, pool::seat(place) + pool::PREFIX_OFFSET);
         if held.length.0 <= length.0 {
             return cell;
         }
-        cell = pool::seat(place) + 5;
+        cell = pool::seat(place) + pool::NEXT_OFFSET;
         match search::follow(pool, capacity, place, held.length) {
             Hung::Route(next) => {
                 place = next;

@@ -14,6 +14,7 @@ use pool::Place;
 use route::Length;
 use route::Prefix;
 use search::End;
+use search::Steps;
 
 // Where a route goes in.
 pub enum PutPlan {
@@ -53,7 +54,7 @@ pub fn plan_put(pool: &[u32], capacity: usize, prefix: Prefix) -> PutPlan
     let end = way.end;
     match end {
         End::Leaf(first) => {
-            let held = pool::prefix_at(pool, pool::seat(first) + 3);
+            let held = pool::prefix_at(pool, pool::seat(first) + pool::PREFIX_OFFSET);
             if held.address == prefix.address {
                 let from = cell_of(pool, capacity, inner, way.depth, prefix.address);
                 return PutPlan::Hang(chain_cell(pool, capacity, from, first, prefix.length));
@@ -109,7 +110,7 @@ pub fn held_at(pool: &[u32], capacity: usize, prefix: Prefix) -> HeldAt
 fn plan_lone(
     pool: &[u32],
     capacity: usize,
-    inner: [usize; 32],
+    inner: Steps,
     depth: usize,
     address: u32,
     place: Place,

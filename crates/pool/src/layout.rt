@@ -10,6 +10,32 @@ pub const LIMIT: u32 = 96;
 // The most changes that may stand in a trial.
 pub const CHANGES: usize = 64;
 
+// The words that the largest capacity needs.
+pub const MOST_WORDS: usize = 1032 + 12 * (LIMIT as usize);
+
+// The words of the head.
+pub const AT_CAPACITY: usize = 0;
+
+pub const AT_COUNT: usize = 1;
+
+pub const AT_ROOT: usize = 2;
+
+pub const AT_TRIAL: usize = 3;
+
+pub const AT_STANDING: usize = 4;
+
+// How far behind the beginning of a route place its prefix and its next link stand.
+pub const PREFIX_OFFSET: usize = 3;
+
+pub const NEXT_OFFSET: usize = 5;
+
+// How far behind the beginning of a change its prefix, the hop before and the hop after stand.
+pub const CHANGED_OFFSET: usize = 1;
+
+pub const OLD_OFFSET: usize = 3;
+
+pub const NEW_OFFSET: usize = 6;
+
 // The words that a capacity needs.
 pub fn size_of(capacity: usize) -> usize
     requires { ⌜ capacity ≤ 65535 ⌝ }

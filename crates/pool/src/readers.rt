@@ -54,7 +54,7 @@ pub fn route_at(pool: &[u32], place: Place) -> Route
 {
     let at = layout::seat(place);
     Route {
-        prefix: prefix_at(pool, at + 3),
+        prefix: prefix_at(pool, at + layout::PREFIX_OFFSET),
         hop: hop_at(pool, at),
     }
 }
@@ -76,7 +76,7 @@ pub fn next_at(pool: &[u32], place: Place) -> u32
     ensures { λ r. ⌜ r ≡ layout.nextAt ipv4 (now (pool .entry)) (place .0) ⌝ }
 {
     let at = layout::seat(place);
-    pool[at + 5]
+    pool[at + layout::NEXT_OFFSET]
 }
 
 // The mark of an inner place: 0 while it is free, else its bit + 1.

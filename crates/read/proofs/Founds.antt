@@ -18,15 +18,15 @@ use Rattle.pool.specs.Layout.{Layout, size, rootIn}
 use Rattle.pool.specs.Holds.{Seat, bareRoot, HoldsRoot}
 use Rattle.pool.specs.Means.{Means}
 use Rattle.pool.proofs.Laid.{Laid}
-use Rattle.climb.specs.Says.{Says}
+use Rattle.search.specs.Says.{Says}
 use Rattle.climb.specs.Climb.{Looks}
 use Rattle.walk.specs.Walk.{Firsts, Nexts}
-use Rattle.lent.specs.Own.{OwnRight}
+use Rattle.verdict.specs.Own.{OwnRight}
 use Rattle.promise.specs.Promise.{Meant, Promise, LookupPromise}
 use Rattle.promise.specs.Trees.{tree}
-use Rattle.lent.specs.declared.Own.the-variants.{Capacity}
+use Rattle.verdict.specs.declared.Own.the-variants.{Capacity}
 use Rattle.promise.proofs.Promises.{promise-of, meant-one, refuses-sound}
-use Rattle.lent.proofs.Lent.{own-sound}
+use Rattle.verdict.proofs.Lent.{own-sound}
 
 module _ {P : Type 0} where
   -- ---- an answer, and the route that it says

@@ -10,15 +10,15 @@ ghost use Rattle.pool.specs.Ipv4.{ipv4};
 ghost use Rattle.promise.specs.Trees.{tree};
 ghost use Rattle.promise.specs.Table.{Sound};
 ghost use Rattle.promise.specs.Promise.{Promise, LookupPromise};
-use lent::Own;
-use lent::Verdict;
-use lent::own_words;
-use lent::tested;
 use route::Found;
 use route::Measured;
 use route::Prefix;
 use route::Refusal;
 use route::Room;
+use verdict::Own;
+use verdict::Verdict;
+use verdict::own_words;
+use verdict::tested;
 
 // Whether a pool is sound: yes exactly when it is.
 pub fn sound(pool: &[u32]) -> bool
@@ -37,7 +37,7 @@ pub fn lookup(pool: &[u32], destination: u32) -> Found
     match own_words(pool) {
         Own::Capacity(capacity) => {
             let own = pool::size_of(capacity);
-            climb::lookup(&pool[..own], capacity, destination)
+            climb::longest_match(&pool[..own], capacity, destination)
         }
         Own::Short => Found::Refused(Refusal::NotSound),
     }
@@ -75,7 +75,7 @@ pub fn room_left(pool: &[u32]) -> Room
     let Verdict::Sound(_) = tested(pool) else {
         return Room::Refused(Refusal::NotSound);
     };
-    Room::Left(pool[0] - pool[1])
+    Room::Left(pool[pool::AT_CAPACITY] - pool[pool::AT_COUNT])
 }
 
 // The length of a mask. It is asked of no pool: whatever words there are, it leaves them.

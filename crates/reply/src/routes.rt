@@ -14,7 +14,7 @@ use route::Found;
 use route::Room;
 
 // The words of a pool of the largest capacity, and 16 past it.
-pub type Words = [u32; 2200];
+pub type Words = [u32; pool::MOST_WORDS + 16];
 
 // The routes in walk order. There are no more than the largest capacity, which is what ends the loop for the proof.
 fn walk(words: &Words) {

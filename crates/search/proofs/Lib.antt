@@ -4,3 +4,5 @@ pub mod Partway
 pub mod Led
 pub mod Chain
 pub mod Spots
+pub mod Left
+pub mod Rise

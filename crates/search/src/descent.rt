@@ -9,6 +9,7 @@ ghost use Rattle.search.specs.Seen.{SeenRight};
 ghost use Rattle.search.specs.Down.{Ways};
 use pool::Link;
 use pool::Place;
+use route::Prefix;
 
 // What stands at a link of the tree: a leaf's first route, or an inner place and its bit.
 pub enum Seen {
@@ -39,7 +40,7 @@ pub fn see(pool: &[u32], capacity: usize, link: u32, lowest: u32) -> Seen
             if mark <= lowest {
                 return Seen::Damaged;
             }
-            if 32 < mark {
+            if Prefix::WIDTH < mark {
                 return Seen::Damaged;
             }
             Seen::Inner(place, mark - 1)
@@ -67,9 +68,12 @@ pub enum End {
     Damaged,
 }
 
-// The inner places passed, from the root down, and where it ended.
+// The inner places of a way, from the root down: at most one for each bit.
+pub type Steps = [usize; 32];
+
+// The inner places passed, and where it ended.
 pub struct Way {
-    pub inner: [usize; 32],
+    pub inner: Steps,
     pub depth: usize,
     pub end: End,
 }
@@ -82,7 +86,7 @@ pub fn down(pool: &[u32], capacity: usize, destination: u32) -> Way
     let mut inner = [0usize; 32];
     let mut depth: usize = 0;
     let mut lowest: u32 = 0;
-    let mut link = pool[2];
+    let mut link = pool[pool::AT_ROOT];
     if link == 0 {
         return Way {
             inner,

@@ -31,7 +31,7 @@ pub fn follow(pool: &[u32], capacity: usize, place: Place, length: Length) -> Hu
             if capacity <= next.0 {
                 return Hung::Damaged;
             }
-            let prefix = pool::prefix_at(pool, pool::seat(next) + 3);
+            let prefix = pool::prefix_at(pool, pool::seat(next) + pool::PREFIX_OFFSET);
             if prefix.length.0 < length.0 {
                 Hung::Route(next)
             } else {
@@ -86,7 +86,7 @@ pub fn along(pool: &[u32], capacity: usize, first: Place, prefix: Prefix, wanted
 {
     let mut place = first;
     loop {
-        let held = pool::prefix_at(pool, pool::seat(place) + 3);
+        let held = pool::prefix_at(pool, pool::seat(place) + pool::PREFIX_OFFSET);
         if passes(wanted, prefix, held) {
             return Spot::At(place);
         }

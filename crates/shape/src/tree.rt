@@ -7,6 +7,7 @@ use super::chain::ChainAudit;
 use super::chain::audit_chain;
 use pool::Link;
 use pool::Place;
+use route::Prefix;
 
 // A tree's lowest and highest address, and how many places it takes.
 pub struct Span {
@@ -91,7 +92,7 @@ fn audit_tree(pool: &[u32], capacity: usize, link: u32, low: u32) -> TreeAudit
             if mark <= low {
                 return TreeAudit::Bad;
             }
-            if 32 < mark {
+            if Prefix::WIDTH < mark {
                 return TreeAudit::Bad;
             }
             let TreeAudit::Fine(left) = audit_tree(
@@ -120,7 +121,7 @@ pub fn audit_root(pool: &[u32], capacity: usize) -> RootAudit
     requires { ⌜ Fit ipv4 capacity (now pool) ⌝ }
     ensures { λ r. ⌜ RootSays ipv4 capacity (now (pool .entry)) r ⌝ }
 {
-    let root = pool[2];
+    let root = pool[pool::AT_ROOT];
     if root == 0 {
         return RootAudit::Fine {
             routes: 0,

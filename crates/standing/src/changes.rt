@@ -37,7 +37,7 @@ fn change_is_good(pool: &[u32], capacity: usize, change: usize) -> bool
 {
     let at = pool::slot(capacity, change);
     let action = pool[at];
-    let prefix = pool::prefix_at(pool, at + 1);
+    let prefix = pool::prefix_at(pool, at + pool::CHANGED_OFFSET);
     if !prefix.well_formed() {
         return false;
     }
@@ -45,18 +45,18 @@ fn change_is_good(pool: &[u32], capacity: usize, change: usize) -> bool
         return false;
     }
     if action == 1 {
-        return hop_is_good(pool, at + 6);
+        return hop_is_good(pool, at + pool::NEW_OFFSET);
     }
     if action == 2 {
-        return hop_is_good(pool, at + 3);
+        return hop_is_good(pool, at + pool::OLD_OFFSET);
     }
     if action != 3 {
         return false;
     }
-    if !hop_is_good(pool, at + 3) {
+    if !hop_is_good(pool, at + pool::OLD_OFFSET) {
         return false;
     }
-    hop_is_good(pool, at + 6)
+    hop_is_good(pool, at + pool::NEW_OFFSET)
 }
 
 // Whether all standing changes are good.
@@ -86,7 +86,7 @@ fn is_there(pool: &[u32], capacity: usize, standing: usize, change: usize) -> bo
     let mut newer = change + 1;
     while newer < standing {
         let at = pool::slot(capacity, newer);
-        let other = pool::prefix_at(pool, at + 1);
+        let other = pool::prefix_at(pool, at + pool::CHANGED_OFFSET);
         if prefix.is(other) {
             return pool[at] != 1;
         }

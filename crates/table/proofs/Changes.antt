@@ -21,12 +21,12 @@ use Rattle.apply.specs.Does.{Accepted, Does}
 use Rattle.promise.specs.Trees.{tree}
 use Rattle.promise.specs.Table.{Table}
 use Rattle.promise.specs.Promise.{Meant, Promise}
-use Rattle.lent.specs.Own.{OwnRight}
-use Rattle.lent.specs.declared.Own.the-variants.{Capacity}
-use Rattle.ruling.specs.May.{MayRight}
-use Rattle.ruling.specs.declared.may.May.the-variants.{Go, No}
+use Rattle.verdict.specs.Own.{OwnRight}
+use Rattle.verdict.specs.declared.Own.the-variants.{Capacity}
+use Rattle.may.specs.May.{MayRight}
+use Rattle.may.specs.declared.May.the-variants.{Go, No}
 use Rattle.promise.proofs.Promises.{meant-one, promise-of, refused-value, refused-next}
-use Rattle.lent.proofs.Lent.{own-in, own-fits, own-sound, sound-own}
+use Rattle.verdict.proofs.Lent.{own-in, own-fits, own-sound, sound-own}
 
 module _ {P : Type 0} (L : Layout P) (laid : Laid L) where
   -- ---- it goes on

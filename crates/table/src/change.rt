@@ -4,16 +4,16 @@ ghost use Rattle.route.specs.Answers.{doneNumber};
 ghost use Rattle.pool.specs.Ipv4.{ipv4};
 ghost use Rattle.promise.specs.Promise.{Promise};
 ghost use Rattle.promise.specs.Trees.{tree};
+use may::May;
+use may::may_add;
+use may::may_change;
+use may::may_delete;
+use may::may_end;
+use may::may_open;
+use may::may_step_back;
 use route::Done;
 use route::Prefix;
 use route::Route;
-use ruling::May;
-use ruling::may_add;
-use ruling::may_change;
-use ruling::may_delete;
-use ruling::may_end;
-use ruling::may_open;
-use ruling::may_step_back;
 
 // One route more.
 pub fn add(pool: &mut [u32], route: Route) -> Done

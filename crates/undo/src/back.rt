@@ -13,15 +13,15 @@ fn take_back(pool: &mut [u32], capacity: usize)
     requires { ⌜ Accepted ipv4 capacity call.stepBack (now pool) ⌝ }
     ensures { λ _. ⌜ ((s : State Hop) → Accepts ipv4 capacity call.stepBack (now (pool .entry)) s → Encodes ipv4 (now (pool .exit)) (call.withTrial s (call.steppedBack s (s .trial) .routes) (s .trial))) ⌝ }
 {
-    let standing = pool[4];
+    let standing = pool[pool::AT_STANDING];
     let at = pool::slot(capacity, pool::wide(standing - 1));
     let action = pool[at];
-    let prefix = pool::prefix_at(pool, at + 1);
+    let prefix = pool::prefix_at(pool, at + pool::CHANGED_OFFSET);
     if action == 1 {
         edit::take_out(pool, capacity, prefix);
         return;
     }
-    let hop = pool::hop_at(pool, at + 3);
+    let hop = pool::hop_at(pool, at + pool::OLD_OFFSET);
     if action == 2 {
         edit::put_in(pool, capacity, Route { prefix, hop });
         return;
@@ -36,7 +36,7 @@ pub fn step_back(pool: &mut [u32], capacity: usize)
     ensures { λ _. ⌜ Does ipv4 capacity call.stepBack (now (pool .entry)) (now (pool .exit)) ⌝ }
 {
     take_back(pool, capacity);
-    trial::strike(pool);
+    trial_rows::strike(pool);
 }
 
 // Take back all of them, newest first, and close the trial.
@@ -45,8 +45,8 @@ pub fn back_out(pool: &mut [u32], capacity: usize)
     requires { ⌜ Accepted ipv4 capacity call.backOut (now pool) ⌝ }
     ensures { λ _. ⌜ Does ipv4 capacity call.backOut (now (pool .entry)) (now (pool .exit)) ⌝ }
 {
-    while pool[4] != 0 {
+    while pool[pool::AT_STANDING] != 0 {
         step_back(pool, capacity);
     }
-    trial::write_head(pool, 0, 0);
+    trial_rows::write_head(pool, 0, 0);
 }

@@ -18,14 +18,14 @@ use Rattle.pool.specs.Holds.{Seat, Seated, bare, bareRoot, Holds, HoldsRoot}
 use Rattle.pool.specs.declared.link.Place.{Place}
 use Rattle.pool.proofs.Unique.{not-nothing}
 use Rattle.search.specs.Down.{Kept}
-use Rattle.climb.specs.Says.{Says, Loose}
-use Rattle.climb.specs.Climb.{leftLeaf, LeftLed, Leftmost}
+use Rattle.search.specs.Says.{Says, Loose}
+use Rattle.search.specs.Edge.{leftLeaf, LeftLed, Leftmost}
 use Rattle.walk.specs.Walk.{Fronts, Firsts, RightSide}
-use Rattle.climb.specs.declared.climb.Edge as edge
+use Rattle.search.specs.declared.edge.Edge as edge
 use Rattle.search.proofs.Bare.{bareWay}
 use Rattle.search.proofs.Chain.{route-there}
 use Rattle.walk.proofs.Around.{first-append, later}
-use Rattle.climb.proofs.Rise.{sideOf, WayHeld, rise-top, rise-at}
+use Rattle.search.proofs.Rise.{sideOf, WayHeld, rise-top, rise-at}
 
 module _ {P : Type 0} (L : Layout P) where
   -- the first route stands in the leftmost leaf

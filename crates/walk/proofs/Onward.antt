@@ -27,7 +27,7 @@ use Rattle.pool.specs.Holds.{Seat, Seated, bare, bareRoot, bareEntries, chainPl
 use Rattle.pool.specs.declared.link.Place.{Place}
 use Rattle.search.specs.Down.{EndsAt, Led, Ways}
 use Rattle.search.specs.Find.{Spotted, seek, SpotIn}
-use Rattle.climb.specs.Says.{Says}
+use Rattle.search.specs.Says.{Says}
 use Rattle.walk.specs.Walk.{Fronts, RightSide, Rejoined, Goes, Nexts}
 use Rattle.search.specs.declared.descent.End as end
 use Rattle.search.specs.declared.exact.Spot.the-variants.{At, Absent, Damaged}
@@ -35,7 +35,7 @@ use Rattle.search.proofs.Bare.{bareWay, bare-plug}
 use Rattle.search.proofs.Led.{led-not-empty, led-not-damaged, led-chain, led-bare, led-longest}
 use Rattle.search.proofs.Chain.{prefix-there}
 use Rattle.search.proofs.Spots.{seek-next}
-use Rattle.climb.proofs.Rise.{PartHeld, part-held}
+use Rattle.search.proofs.Rise.{PartHeld, part-held}
 use Rattle.walk.proofs.Around.{first-else, next-nothing, later, shares-same, Shares, next-around}
 use Rattle.walk.proofs.Fronts.{right-exact, right-loose}
 use Rattle.walk.proofs.Rejoin.{Named, named-link, rejoins, rejoined-shares}

@@ -20,7 +20,7 @@ use Rattle.pool.specs.Holds.{Seat, Seated, bare, Holds}
 use Rattle.search.specs.Down.{Kept}
 use Rattle.search.proofs.Bare.{bareWay, bare-plug}
 use Rattle.walk.proofs.Around.{Shares, shares-before}
-use Rattle.climb.proofs.Rise.{StepHeld, WayHeld, part-held, kept-tail, follows-tail}
+use Rattle.search.proofs.Rise.{StepHeld, WayHeld, part-held, kept-tail, follows-tail}
 
 module _ {P : Type 0} where
   -- a step put back around a tree

@@ -12,9 +12,9 @@ use Rattle.patricia.specs.Good.{Good, RootGood}
 use Rattle.patricia.specs.Tree.{Root, routes, rootRoutes}
 use Rattle.pool.specs.Layout.{Layout, rootIn, heldPrefix, markAt, rightAt}
 use Rattle.pool.specs.Holds.{Seat, Seated, bare, bareRoot, Holds, HoldsRoot}
-use Rattle.climb.specs.Says.{Says, Loose}
-use Rattle.climb.specs.Climb.{Rises}
-use Rattle.climb.specs.declared.climb.Rise.the-variants.{At, Top}
+use Rattle.search.specs.Says.{Says, Loose}
+use Rattle.search.specs.Edge.{Rises}
+use Rattle.search.specs.declared.edge.Rise.the-variants.{At, Top}
 
 module _ {P : Type 0} (L : Layout P) where
   -- The first route of what stands at a link.

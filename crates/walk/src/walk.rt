@@ -5,20 +5,21 @@ ghost use Rattle.pool.specs.Ipv4.{ipv4};
 ghost use Rattle.pool.specs.Fit.{Fit};
 ghost use Rattle.search.specs.Down.{AllUsable, Ways, EndsAt};
 ghost use Rattle.walk.specs.Walk.{Fronts, Firsts, RightSide, Rejoined, Goes, Nexts};
-use climb::Edge;
-use climb::Rise;
-use climb::ascend;
-use climb::leftmost;
 use pool::Place;
 use route::Found;
 use route::Prefix;
 use route::Refusal;
+use search::Edge;
 use search::End;
+use search::Rise;
 use search::Spot;
+use search::Steps;
 use search::Wanted;
 use search::Way;
 use search::along;
+use search::ascend;
 use search::down;
+use search::leftmost;
 
 // The first route of what stands at a link.
 fn front(pool: &[u32], capacity: usize, link: u32) -> Found
@@ -36,7 +37,7 @@ pub fn first(pool: &[u32], capacity: usize) -> Found
     requires { ⌜ Fit ipv4 capacity (now pool) ⌝ }
     ensures { λ r. ⌜ Firsts ipv4 capacity (now (pool .entry)) (foundNumber r) (foundValue r) ⌝ }
 {
-    let link = pool[2];
+    let link = pool[pool::AT_ROOT];
     if link == 0 {
         return Found::Refused(Refusal::NoFurther);
     }
@@ -44,13 +45,7 @@ pub fn first(pool: &[u32], capacity: usize) -> Found
 }
 
 // The first route to the right of the way, from a level of it up.
-fn right_side(
-    pool: &[u32],
-    capacity: usize,
-    inner: &[usize; 32],
-    level: usize,
-    destination: u32,
-) -> Found
+fn right_side(pool: &[u32], capacity: usize, inner: &Steps, level: usize, destination: u32) -> Found
     requires { ⌜ Fit ipv4 capacity (now pool) ⌝ }
     requires { ⌜ (level ≤ 32) × AllUsable ipv4 capacity (now pool) (now inner) level ⌝ }
     ensures { λ r. ⌜ RightSide ipv4 capacity (now (pool .entry)) destination (now (inner .entry)) level (foundNumber r) (foundValue r) ⌝ }
@@ -63,7 +58,7 @@ fn right_side(
 }
 
 // From the deepest of the levels up: how many are left of those that test a bit before the one at which two addresses part.
-fn rejoin(pool: &[u32], capacity: usize, inner: &[usize; 32], depth: usize, parted: u32) -> usize
+fn rejoin(pool: &[u32], capacity: usize, inner: &Steps, depth: usize, parted: u32) -> usize
     requires { ⌜ Fit ipv4 capacity (now pool) ⌝ }
     requires { ⌜ (depth ≤ 32) × AllUsable ipv4 capacity (now pool) (now inner) depth ⌝ }
     ensures { λ r. ⌜ Rejoined ipv4 capacity (now (pool .entry)) parted (now (inner .entry)) depth r ⌝ }
@@ -121,9 +116,9 @@ pub fn next(pool: &[u32], capacity: usize, prefix: Prefix) -> Found
     let end = way.end;
     match end {
         End::Leaf(leaf) => {
-            let held = pool::prefix_at(pool, pool::seat(leaf) + 3);
+            let held = pool::prefix_at(pool, pool::seat(leaf) + pool::PREFIX_OFFSET);
             let parted = bits::parting(prefix.address, held.address);
-            if parted == 32 {
+            if parted == Prefix::WIDTH {
                 within(pool, capacity, way, leaf, prefix)
             } else {
                 aside(pool, capacity, way, leaf, prefix, parted)

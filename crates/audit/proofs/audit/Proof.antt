@@ -7,12 +7,12 @@ use Rattle.model.proofs.Tests.{not-both}
 use Rattle.pool.specs.Ipv4.{ipv4}
 use Rattle.audit.specs.Head.{HeadFine}
 use Rattle.shape.specs.Tree.{RootSays}
-use Rattle.marks.specs.Marks.{isUsed}
-use Rattle.marks.specs.declared.Sort.{Sort}
+use Rattle.places.specs.Marks.{isUsed}
+use Rattle.places.specs.declared.Sort.{Sort}
 use Rattle.standing.specs.Changes.{ChangesFine, BackSays}
 use Rattle.shape.specs.declared.tree.RootAudit.{RootAudit}
 use Rattle.shape.proofs.Hanging.{refused}
-use Rattle.marks.proofs.Tally.{tally-le}
+use Rattle.places.proofs.Tally.{tally-le}
 use Rattle.audit.proofs.Sounding.{SoundAt, sound-fine, counts, decides}
 use borrow.Author.Needs.{needs}
 use Rattle.audit.proofs.audit.Statement.{statement}

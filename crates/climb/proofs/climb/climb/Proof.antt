@@ -11,9 +11,9 @@ use Rattle.pool.specs.Layout.{heldPrefix, leftAt}
 use Rattle.pool.specs.Ipv4.{ipv4}
 use Rattle.search.specs.Chain.{HungRight}
 use Rattle.search.specs.Down.{EndInPool, Usable}
-use Rattle.climb.specs.Climb.{Rises, Leftmost}
+use Rattle.search.specs.Edge.{Rises, Leftmost}
 use Rattle.search.specs.Down.{AllUsable}
-use Rattle.climb.specs.declared.climb.Rise.the-variants.{At}
+use Rattle.search.specs.declared.edge.Rise.the-variants.{At}
 use Rattle.climb.proofs.Climbing.{Matching, Unmatched, match-start, match-next, match-end, AllClimbing, climb-start, climbs-hit, climbs-top, climb-on, climbs-broken, climbs-lost}
 use Rattle.climb.proofs.climb.climb.Statement.{statement}
 use Rattle.climb.proofs.climb.climb.Tie as tie

@@ -18,17 +18,17 @@ Inv-loop pool capacity from length cell₀ place₀ cell place =
     (place .0 < capacity) × CellFrom ipv4 capacity pool from (length .0) cell × AllAt ipv4 capacity pool from (length .0) (place₀ .0) cell (toRoute (place .0))
 
 abbrev μ-loop : tie.MeasureT-loop
-μ-loop pool capacity from length cell₀ place₀ cell place = prefixAt ipv4 pool (ipv4 .seat (place .0) + 3) .length
+μ-loop pool capacity from length cell₀ place₀ cell place = prefixAt ipv4 pool (ipv4 .seat (place .0) + ipv4 .prefixOffset) .length
 
 -- the length that was read
-held : (c : tie.After-prefix-at Inv-loop μ-loop) → c .prefix-at .result .length .0 ≡ prefixAt ipv4 (c .before .before .before .before .args .pool .now) (ipv4 .seat (c .before .before .loop .place .0) + 3) .length
-held c = ap (λ (p : Prefix). p .length) (c .prefix-at .ensures) ∙ ap (λ (n : ℕ). prefixAt ipv4 (c .before .before .before .before .args .pool .now) (n + 3) .length) (c .before .seat .ensures)
+held : (c : tie.After-prefix-at Inv-loop μ-loop) → c .prefix-at .result .length .0 ≡ prefixAt ipv4 (c .before .before .before .before .args .pool .now) (ipv4 .seat (c .before .before .loop .place .0) + ipv4 .prefixOffset) .length
+held c = ap (λ (p : Prefix). p .length) (c .prefix-at .ensures) ∙ ap (λ (n : ℕ). prefixAt ipv4 (c .before .before .before .before .args .pool .now) (n + ipv4 .prefixOffset) .length) (c .before .seat .ensures)
 
 -- it is longer
-passed : (c : tie.After-follow Inv-loop μ-loop) → c .before .before .before .before .before .before .before .before .before .args .length .0 < prefixAt ipv4 (c .before .before .before .before .before .before .before .before .before .args .pool .now) (ipv4 .seat (c .before .before .before .before .before .before .before .loop .place .0) + 3) .length
+passed : (c : tie.After-follow Inv-loop μ-loop) → c .before .before .before .before .before .before .before .before .before .args .length .0 < prefixAt ipv4 (c .before .before .before .before .before .before .before .before .before .args .pool .now) (ipv4 .seat (c .before .before .before .before .before .before .before .loop .place .0) + ipv4 .prefixOffset) .length
 passed c = omega (arith, c .before .before .if1 .left, held (c .before .before .before .before .before))
 
-below : (c : tie.After-follow Inv-loop μ-loop) → c .before .seat2 .result + 5 ≡ ipv4 .seat (c .before .before .before .before .before .before .before .loop .place .0) + 5
+below : (c : tie.After-follow Inv-loop μ-loop) → c .before .seat2 .result + 5 ≡ ipv4 .seat (c .before .before .before .before .before .before .before .loop .place .0) + ipv4 .nextOffset
 below c = ap (λ (n : ℕ). n + 5) (c .before .seat2 .ensures)
 
 loop-holds : tie.Need-loop-holds Inv-loop μ-loop

@@ -18,8 +18,8 @@ inside : (c : tie.After-end) → c .end .given .0 .0 .0 < c .before .before .bef
 inside c = subst (EndInPool _) (c .end .given .1) (c .before .before .before .down .ensures .endInPool)
 
 -- the address that was read there
-held : (c : tie.After-prefix-at) → prefixAt ipv4 (c .before .before .before .before .before .before .before .before .args .pool .now) (ipv4 .seat (c .before .before .before .end .given .0 .0 .0) + 3) .address ≡ c .prefix-at .result .address
-held c = sym (ap (λ (p : Prefix). p .address) (c .prefix-at .ensures) ∙ ap (λ (n : ℕ). prefixAt ipv4 (c .before .before .before .before .before .before .before .before .args .pool .now) (n + 3) .address) (c .before .seat .ensures))
+held : (c : tie.After-prefix-at) → prefixAt ipv4 (c .before .before .before .before .before .before .before .before .args .pool .now) (ipv4 .seat (c .before .before .before .end .given .0 .0 .0) + ipv4 .prefixOffset) .address ≡ c .prefix-at .result .address
+held c = sym (ap (λ (p : Prefix). p .address) (c .prefix-at .ensures) ∙ ap (λ (n : ℕ). prefixAt ipv4 (c .before .before .before .before .before .before .before .before .args .pool .now) (n + ipv4 .prefixOffset) .address) (c .before .seat .ensures))
 
 down-requires : tie.Need-down-requires
 down-requires c κs = search needs

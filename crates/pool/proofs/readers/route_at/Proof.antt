@@ -21,7 +21,7 @@ hop-at-requires c κs = search needs
 returns : tie.Need-returns
 returns c =
     let a = c .before .before .before .before .args in
-    let p = c .before .prefix-at .ensures ∙ ap (λ (n : ℕ). prefixAt ipv4 (a .pool .now) (n + 3)) (c .before .before .seat .ensures) in
+    let p = c .before .prefix-at .ensures ∙ ap (λ (n : ℕ). prefixAt ipv4 (a .pool .now) (n + ipv4 .prefixOffset)) (c .before .before .seat .ensures) in
     let h = c .hop-at .ensures ∙ ap (hopAt (a .pool .now)) (c .before .before .seat .ensures) in
     λ i. record { prefix = p i; payload = h i }
 

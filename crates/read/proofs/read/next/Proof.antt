@@ -7,9 +7,9 @@ use Rattle.route.specs.Answers.{foundNumber, foundValue}
 use Rattle.pool.specs.Ipv4.{ipv4}
 use Rattle.pool.proofs.Ipv4.{laid4}
 use Rattle.promise.specs.Trees.{tree}
-use Rattle.lent.specs.Own.{TestedRight}
+use Rattle.verdict.specs.Own.{TestedRight}
 use Rattle.promise.proofs.Promises.{refuses-unsound}
-use Rattle.lent.proofs.Lent.{own-fits, sound-own}
+use Rattle.verdict.proofs.Lent.{own-fits, sound-own}
 use Rattle.read.proofs.Founds.{bad-prefix, next-answer}
 use borrow.Author.Needs.{needs}
 use Rattle.read.proofs.read.next.Statement.{statement}

@@ -3,7 +3,7 @@ use native.Mathlib.Omega.{arith}
 use Rattle.model.specs.Call.{room}
 use Rattle.pool.specs.Ipv4.{ipv4}
 use Rattle.promise.specs.Trees.{tree}
-use Rattle.lent.specs.Own.{TestedRight}
+use Rattle.verdict.specs.Own.{TestedRight}
 use Rattle.promise.proofs.Promises.{refuses-unsound}
 use Rattle.read.proofs.Answers.{room-answer}
 use borrow.Author.Needs.{needs}

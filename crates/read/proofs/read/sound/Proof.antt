@@ -2,7 +2,7 @@ use mathlib.Core.Path.{refl, subst}
 use mathlib.Core.Bool.{false≢true}
 use Rattle.pool.specs.Ipv4.{ipv4}
 use Rattle.promise.specs.Trees.{tree}
-use Rattle.lent.specs.Own.{TestedRight}
+use Rattle.verdict.specs.Own.{TestedRight}
 use borrow.Author.Needs.{needs}
 use Rattle.read.proofs.read.sound.Statement.{statement}
 use Rattle.read.proofs.read.sound.Tie as tie

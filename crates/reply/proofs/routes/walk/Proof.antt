@@ -1,6 +1,7 @@
 -- Nothing is claimed of the routes, so the invariant is empty. The measure is the turns that are left.
 use borrow.Author.Needs.{needs}
 use Prim.Native.Nat.{_-_}
+use Rattle.pool.specs.Ipv4.{ipv4}
 use Rattle.reply.proofs.routes.walk.Statement.{statement}
 use Rattle.reply.proofs.routes.walk.Tie as tie
 
@@ -8,7 +9,7 @@ abbrev Inv-loop : tie.InvT-loop
 Inv-loop words at₀ counter₀ at counter = Unit
 
 abbrev μ-loop : tie.MeasureT-loop
-μ-loop words at₀ counter₀ at counter = 96 - counter
+μ-loop words at₀ counter₀ at counter = ipv4 .rules .limit - counter
 
 first-requires : tie.Need-first-requires Inv-loop μ-loop
 first-requires c κs = search needs

@@ -16,16 +16,16 @@ abbrev Inv-loop : tie.InvT-loop
 Inv-loop pool capacity prefix wanted place₀ place = (place .0 < capacity) × Along ipv4 capacity pool (asked wanted (prefixOf prefix)) (place₀ .0) (place .0)
 
 abbrev μ-loop : tie.MeasureT-loop
-μ-loop pool capacity prefix wanted place₀ place = prefixAt ipv4 pool (ipv4 .seat (place .0) + 3) .length
+μ-loop pool capacity prefix wanted place₀ place = prefixAt ipv4 pool (ipv4 .seat (place .0) + ipv4 .prefixOffset) .length
 
 -- the prefix that was read, and the test of it
-held : (c : tie.After-prefix-at Inv-loop μ-loop) → prefixOf (c .prefix-at .result) ≡ prefixAt ipv4 (c .before .before .before .before .args .pool .now) (ipv4 .seat (c .before .before .loop .place .0) + 3)
-held c = c .prefix-at .ensures ∙ ap (λ (n : ℕ). prefixAt ipv4 (c .before .before .before .before .args .pool .now) (n + 3)) (c .before .seat .ensures)
+held : (c : tie.After-prefix-at Inv-loop μ-loop) → prefixOf (c .prefix-at .result) ≡ prefixAt ipv4 (c .before .before .before .before .args .pool .now) (ipv4 .seat (c .before .before .loop .place .0) + ipv4 .prefixOffset)
+held c = c .prefix-at .ensures ∙ ap (λ (n : ℕ). prefixAt ipv4 (c .before .before .before .before .args .pool .now) (n + ipv4 .prefixOffset)) (c .before .seat .ensures)
 
-tested : (c : tie.After-passes Inv-loop μ-loop) → c .passes .result ≡ asked (c .before .before .before .before .before .args .wanted) (prefixOf (c .before .before .before .before .before .args .prefix)) (prefixAt ipv4 (c .before .before .before .before .before .args .pool .now) (ipv4 .seat (c .before .before .before .loop .place .0) + 3))
+tested : (c : tie.After-passes Inv-loop μ-loop) → c .passes .result ≡ asked (c .before .before .before .before .before .args .wanted) (prefixOf (c .before .before .before .before .before .args .prefix)) (prefixAt ipv4 (c .before .before .before .before .before .args .pool .now) (ipv4 .seat (c .before .before .before .loop .place .0) + ipv4 .prefixOffset))
 tested c = c .passes .ensures ∙ ap (asked (c .before .before .before .before .before .args .wanted) (prefixOf (c .before .before .before .before .before .args .prefix))) (held (c .before))
 
-length-held : (c : tie.After-prefix-at Inv-loop μ-loop) → c .prefix-at .result .length .0 ≡ prefixAt ipv4 (c .before .before .before .before .args .pool .now) (ipv4 .seat (c .before .before .loop .place .0) + 3) .length
+length-held : (c : tie.After-prefix-at Inv-loop μ-loop) → c .prefix-at .result .length .0 ≡ prefixAt ipv4 (c .before .before .before .before .args .pool .now) (ipv4 .seat (c .before .before .loop .place .0) + ipv4 .prefixOffset) .length
 length-held c = ap (λ (p : Prefix). p .length) (held c)
 
 loop-holds : tie.Need-loop-holds Inv-loop μ-loop

@@ -17,8 +17,8 @@ routed : (c : tie.After-next) → nextAt ipv4 (c .before .before .before .before
 routed c = sym (c .before .before .before .next-at .ensures) ∙ read-as _ _ (Route (c .next .given .0 .0)) (c .before .before .link-from .ensures) (c .next .given .1)
 
 -- the length that was read
-measured : (c : tie.After-struct-known3) → c .before .before .prefix-at .result .length .0 ≡ prefixAt ipv4 (c .before .before .before .before .before .before .before .before .before .before .before .before .args .pool .now) (ipv4 .seat (c .before .before .before .before .before .before .before .next .given .0 .0 .0) + 3) .length
-measured c = ap (λ (p : Prefix). p .length) (c .before .before .prefix-at .ensures) ∙ ap (λ (n : ℕ). prefixAt ipv4 (c .before .before .before .before .before .before .before .before .before .before .before .before .args .pool .now) (n + 3) .length) (c .before .before .before .seat .ensures)
+measured : (c : tie.After-struct-known3) → c .before .before .prefix-at .result .length .0 ≡ prefixAt ipv4 (c .before .before .before .before .before .before .before .before .before .before .before .before .args .pool .now) (ipv4 .seat (c .before .before .before .before .before .before .before .next .given .0 .0 .0) + ipv4 .prefixOffset) .length
+measured c = ap (λ (p : Prefix). p .length) (c .before .before .prefix-at .ensures) ∙ ap (λ (n : ℕ). prefixAt ipv4 (c .before .before .before .before .before .before .before .before .before .before .before .before .args .pool .now) (n + ipv4 .prefixOffset) .length) (c .before .before .before .seat .ensures)
 
 next-at-requires : tie.Need-next-at-requires
 next-at-requires c κs = search needs

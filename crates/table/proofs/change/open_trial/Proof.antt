@@ -4,7 +4,7 @@ use Rattle.model.specs.Call.{openTrial}
 use Rattle.pool.specs.Ipv4.{ipv4}
 use Rattle.pool.proofs.Ipv4.{laid4}
 use Rattle.promise.specs.Trees.{tree}
-use Rattle.ruling.specs.May.{MayRight}
+use Rattle.may.specs.May.{MayRight}
 use Rattle.table.proofs.Changes.{goes-small, goes-fit, goes-in, goes-accepted, goes, refused-by}
 use Rattle.table.proofs.change.open_trial.Statement.{statement}
 use Rattle.table.proofs.change.open_trial.Tie as tie

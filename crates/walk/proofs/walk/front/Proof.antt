@@ -1,7 +1,7 @@
 use mathlib.Core.Path.{subst}
 use native.Mathlib.Omega.{arith}
 use Rattle.pool.specs.Ipv4.{ipv4}
-use Rattle.climb.specs.Climb.{Leftmost}
+use Rattle.search.specs.Edge.{Leftmost}
 use Rattle.walk.proofs.Fronts.{fronts-leaf, fronts-damaged}
 use borrow.Author.Needs.{needs}
 use Rattle.walk.proofs.walk.front.Statement.{statement}

@@ -17,7 +17,7 @@ inside c = subst (EndInPool _) (c .end .given .1) (c .before .before .down .ensu
 -- the bit at which the prefix's address parts from the one that was read
 parts : (c : tie.After-parting) → Part 32 (c .before .before .before .before .before .before .before .before .args .prefix .address) (heldPrefix ipv4 (c .before .before .before .before .before .before .before .before .args .pool .now) (c .before .before .before .before .end .given .0 .0 .0) .address) (c .parting .result)
 parts c =
-    let read = ap (λ (p : Prefix). p .address) (c .before .prefix-at .ensures) ∙ ap (λ (n : ℕ). prefixAt ipv4 (c .before .before .before .before .before .before .before .before .args .pool .now) (n + 3) .address) (c .before .before .seat .ensures) in
+    let read = ap (λ (p : Prefix). p .address) (c .before .prefix-at .ensures) ∙ ap (λ (n : ℕ). prefixAt ipv4 (c .before .before .before .before .before .before .before .before .args .pool .now) (n + ipv4 .prefixOffset) .address) (c .before .before .seat .ensures) in
     subst (λ (x : ℕ). Part 32 (c .before .before .before .before .before .before .before .before .args .prefix .address) x (c .parting .result)) read (c .parting .ensures)
 
 down-requires : tie.Need-down-requires

@@ -5,10 +5,10 @@ use native.Mathlib.Omega.{arith}
 use lib.ListN.{getD}
 use Rattle.pool.specs.Ipv4.{ipv4}
 use Rattle.search.specs.Down.{Usable}
-use Rattle.climb.specs.Climb.{Rises}
+use Rattle.search.specs.Edge.{Rises}
 use Rattle.route.specs.Answers.{foundNumber, foundValue}
 use Rattle.walk.specs.Walk.{Fronts}
-use Rattle.climb.specs.declared.climb.Rise.the-variants.{At}
+use Rattle.search.specs.declared.edge.Rise.the-variants.{At}
 use borrow.Author.Needs.{needs}
 use Rattle.walk.proofs.walk.right_side.Statement.{statement}
 use Rattle.walk.proofs.walk.right_side.Tie as tie
