@@ -3,7 +3,6 @@
 ghost use mathlib.Core.Path.{_≡_};
 ghost use Prim.Native.Nat.{_≤_, _<_};
 ghost use Rattle.bits.specs.Address.{first, bit, clear, Part};
-ghost use Rattle.bits.specs.Hole.{maskOf};
 ghost use Rattle.bits.specs.Answer.{maskAnswer};
 
 // Bit 0 is the highest, so the shift counts down from 31.
@@ -38,18 +37,6 @@ pub fn parting(x: u32, y: u32) -> u32
     ensures { λ r. ⌜ Part 32 x y r ⌝ }
 {
     u32::leading_zeros(x ^ y)
-}
-
-// The mask of length 0 would need a shift by 32, as in first_bits, so it takes none.
-pub fn mask_of(length: u32) -> u32
-    requires { ⌜ length ≤ 32 ⌝ }
-    ensures { λ r. ⌜ r ≡ maskOf 32 length ⌝ }
-{
-    if length != 0 {
-        4294967295 << (32 - length)
-    } else {
-        0
-    }
 }
 
 // What an old-format mask says.
