@@ -1,6 +1,10 @@
 //! Draws the tree that stands in a pool, as text or as a picture.
 //!
 //!     draw [--svg]    reads what the console answers to `sound` and then to `peek` of each word from word 0 on
+//!     draw --words    says how many words that are: those of the largest pool
+#[path = "../limits.rs"]
+#[allow(dead_code)] // a drawing asks for no port
+mod limits;
 mod pool;
 mod route;
 mod svg;
@@ -37,7 +41,8 @@ fn main() -> ExitCode {
     let drawn = match words[..] {
         [] => drawing(text::draw),
         ["--svg"] => drawing(svg::draw),
-        _ => Err("usage: draw [--svg] <ANSWERS".to_string()),
+        ["--words"] => Ok(format!("{}\n", limits::size(limits::MOST_ROUTES))),
+        _ => Err("usage: draw [--svg] <ANSWERS, or draw --words".to_string()),
     };
     match drawn {
         Ok(drawn) => {

@@ -1,10 +1,9 @@
 //! What stands in the words of a pool, after docs/POOL.md. The words may be anything: each link is tested before it is
 //! followed and no place is drawn twice, so the reading ends, and what is damaged is told where it stands.
+use crate::limits::{size, HEAD, INNER, MOST_CHANGES, MOST_ROUTES, ROUTE};
 use crate::route::{mask, Route};
 use std::fmt;
 
-const MOST_ROUTES: u32 = 96;
-const MOST_CHANGES: u32 = 64;
 
 #[derive(Clone, Copy, PartialEq)]
 pub enum Place {
@@ -39,7 +38,7 @@ pub struct Pool {
 }
 
 /// The words of the largest pool, so that no capacity that a table may have leads past them.
-pub type Words = [u32; 1032 + 12 * MOST_ROUTES as usize];
+pub type Words = [u32; size(MOST_ROUTES)];
 
 pub fn read(words: &Words, sound: bool) -> Pool {
     let capacity = words[0];
@@ -104,8 +103,8 @@ struct Reader<'a> {
 impl Reader<'_> {
     fn row(&self, place: Place) -> &[u32] {
         match place {
-            Place::Route(i) => &self.words[8 + 8 * i..][..8],
-            Place::Inner(j) => &self.words[8 + 8 * self.capacity + 4 * j..][..4],
+            Place::Route(i) => &self.words[HEAD + ROUTE * i..][..ROUTE],
+            Place::Inner(j) => &self.words[HEAD + ROUTE * self.capacity + INNER * j..][..INNER],
         }
     }
 
@@ -201,7 +200,7 @@ impl Reader<'_> {
         let lines = [
             (routes as usize != held, format!("word 1 says {routes} routes, and the tree has {held}")),
             (trial > 1, format!("word 3 says {trial}, and a trial is 0 or 1")),
-            (standing > MOST_CHANGES, format!("word 4 says {standing} changes, and at most {MOST_CHANGES} stand")),
+            (standing as usize > MOST_CHANGES, format!("word 4 says {standing} changes, and at most {MOST_CHANGES} stand")),
             (trial == 0 && standing > 0, format!("word 4 says {standing} changes, and no trial is open")),
         ];
         let head = lines.into_iter().filter(|line| line.0).map(|line| line.1);
