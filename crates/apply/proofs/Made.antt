@@ -58,14 +58,16 @@ module _ {P : Type 0} (L : Layout P) where
       → (places : List ℕ) × Spotted L ws places x (some r)
   found-there c ws p x f s m ci r is = (routesUsed (m .tree), subst (Spotted L ws (routesUsed (m .tree)) x) is (means-spotted L c ws p x f s m ci))
 
-  pub hop-there : (c : ℕ) (ws : List ℕ) (p : Prefix) (i : Place) → Finds L c ws p (spot.At i) → (s : State P) → Means L ws s → s .capacity ≡ c → (r : Route P) → find p (s .routes) ≡ some r
+  pub hop-there : (c : ℕ) (ws : List ℕ) (p : Prefix) (i : Place) → Finds L c ws p (spot.At i) → (s : State P) → Means L ws s → s .capacity ≡ c → (r : Route P)
+      → find p (s .routes) ≡ some r
       → heldPayload L ws (i .0) ≡ r .payload
   hop-there c ws p i f s m ci r is = ap (λ (x : Route P). x .payload) (found-there c ws p (spot.At i) f s m ci r is .1 .1)
 
   -- ---- a change recorded
 
   -- a trial that isn't full has a free slot
-  pub slot-free : (ws : List ℕ) (s : State P) → Encodes L ws s → length (changes (s .trial)) ≤ L .rules .standing → trialFull (L .rules) s ≡ false → trialIn ws ≡ 1 → standingIn ws < L .rules .standing
+  pub slot-free : (ws : List ℕ) (s : State P) → Encodes L ws s → length (changes (s .trial)) ≤ L .rules .standing → trialFull (L .rules) s ≡ false → trialIn ws ≡ 1
+      → standingIn ws < L .rules .standing
   slot-free ws s e few f one = go (s .trial) refl
     where
       go : (t : Trial P) → s .trial ≡ t → standingIn ws < L .rules .standing
@@ -80,7 +82,8 @@ module _ {P : Type 0} (L : Layout P) where
 module _ {P : Type 0} (L : Layout P) (laid : Laid L) where
   -- what is noted is recorded, if a trial is open
   pub noted-encodes : (c action : ℕ) (p : Prefix) (old new : P) (x : Change P) (ws zs : List ℕ) (s : State P) → Says L laid action p old new x → Encodes L ws s → s .capacity ≡ c
-      → length (changes (s .trial)) ≤ L .rules .standing → trialFull (L .rules) s ≡ false → Noted L c action p old new ws zs → Encodes L zs (withTrial s (s .routes) (recordIn (s .trial) x))
+      → length (changes (s .trial)) ≤ L .rules .standing → trialFull (L .rules) s ≡ false → Noted L c action p old new ws zs
+      → Encodes L zs (withTrial s (s .routes) (recordIn (s .trial) x))
   noted-encodes c action p old new x ws zs s says e ci few f k = go (s .trial) refl
     where
       go : (t : Trial P) → s .trial ≡ t → Encodes L zs (withTrial s (s .routes) (recordIn (s .trial) x))
@@ -96,7 +99,8 @@ module _ {P : Type 0} (L : Layout P) (laid : Laid L) where
           let room : length cs < L .rules .standing = omega (arith, kk, eqb-false (length cs) (L .rules .standing) g) in
           let r = record-encodes L laid ws s e cs is room action p old new x says in
           subst (λ (t : Trial P). Encodes L zs (withTrial s (s .routes) t)) (sym (ap (λ (t : Trial P). recordIn t x) is))
-          (subst (λ (y : List ℕ). Encodes L y (withTrial s (s .routes) (opened (x ∷ cs)))) (sym (k .inTrial (h .0) ∙ ap (λ (n : ℕ). writes (recordWrites L n (standingIn ws) action p old new) ws) (sym ci))) r)
+          (subst (λ (y : List ℕ). Encodes L y (withTrial s (s .routes) (opened (x ∷ cs))))
+          (sym (k .inTrial (h .0) ∙ ap (λ (n : ℕ). writes (recordWrites L n (standingIn ws) action p old new) ws) (sym ci))) r)
 
   -- ---- add
 
@@ -141,7 +145,8 @@ module _ {P : Type 0} (L : Layout P) (laid : Laid L) where
     pub delete-slot : (ys : List ℕ) → Encodes L ys (withTrial s (remove p (s .routes)) (s .trial)) → trialIn ys ≡ 1 → standingIn ys < L .rules .standing
     delete-slot ys e = slot-free L ys (withTrial s (remove p (s .routes)) (s .trial)) e (a .means .lawful .few) (delete-quiet .1 .1 .1 .0)
 
-    pub delete-does : (ys zs : List ℕ) (old : P) → ((r : Route P) → find p (s .routes) ≡ some r → old ≡ r .payload) → Encodes L ys (withTrial s (remove p (s .routes)) (s .trial)) → Noted L c 2 p old old ys zs
+    pub delete-does : (ys zs : List ℕ) (old : P) → ((r : Route P) → find p (s .routes) ≡ some r → old ≡ r .payload) → Encodes L ys (withTrial s (remove p (s .routes)) (s .trial))
+        → Noted L c 2 p old old ys zs
         → (t : State P) × (next (L .rules) (delete p) (some s) ≡ some t) × Means L zs t
     delete-does ys zs old held e n =
         let r = gone .0 in
@@ -167,24 +172,28 @@ module _ {P : Type 0} (L : Layout P) (laid : Laid L) where
     pub change-slot : (ys : List ℕ) → Encodes L ys (withTrial s (replace r (s .routes)) (s .trial)) → trialIn ys ≡ 1 → standingIn ys < L .rules .standing
     change-slot ys e = slot-free L ys (withTrial s (replace r (s .routes)) (s .trial)) e (a .means .lawful .few) (change-quiet .1 .1 .1 .1 .0)
 
-    pub change-does : (ys zs : List ℕ) (old : P) → ((o : Route P) → find (r .prefix) (s .routes) ≡ some o → old ≡ o .payload) → Encodes L ys (withTrial s (replace r (s .routes)) (s .trial))
+    pub change-does : (ys zs : List ℕ) (old : P) → ((o : Route P) → find (r .prefix) (s .routes) ≡ some o → old ≡ o .payload)
+        → Encodes L ys (withTrial s (replace r (s .routes)) (s .trial))
         → Noted L c 3 (r .prefix) old (r .payload) ys zs → (t : State P) × (next (L .rules) (change r) (some s) ≡ some t) × Means L zs t
     change-does ys zs old held e n =
         let h : old ≡ was .0 .payload = held (was .0) (was .1) in
         let x : changed (r .prefix) old (r .payload) ≡ changed (r .prefix) (was .0 .payload) (r .payload) = ap (λ (o : P). changed (r .prefix) o (r .payload)) h in
         let y = changed (r .prefix) (was .0 .payload) (r .payload) in
         does-of L c (change r) ws zs s (changeTo s (replace r (s .routes)) y) a (ap (λ (o : Option (Route P)). some (changeAt r s o)) (was .1))
-        (noted-encodes c 3 (r .prefix) old (r .payload) y ys zs (withTrial s (replace r (s .routes)) (s .trial)) (subst (Says L laid 3 (r .prefix) old (r .payload)) x (says-changed L laid (r .prefix) old (r .payload))) e
+        (noted-encodes c 3 (r .prefix) old (r .payload) y ys zs (withTrial s (replace r (s .routes)) (s .trial))
+        (subst (Says L laid 3 (r .prefix) old (r .payload)) x (says-changed L laid (r .prefix) old (r .payload))) e
         (a .capacityIs) (a .means .lawful .few) (change-quiet .1 .1 .1 .1 .0) n)
 
   -- ---- a trial opened, and kept
 
-  pub open-does : (c : ℕ) (ws zs : List ℕ) (s : State P) → Accepts L c openTrial ws s → zs ≡ writes (headWrites 1 0) ws → (t : State P) × (next (L .rules) openTrial (some s) ≡ some t) × Means L zs t
+  pub open-does : (c : ℕ) (ws zs : List ℕ) (s : State P) → Accepts L c openTrial ws s → zs ≡ writes (headWrites 1 0) ws
+      → (t : State P) × (next (L .rules) openTrial (some s) ≡ some t) × Means L zs t
   open-does c ws zs s a e =
       let t = withTrial s (s .routes) (opened []) in
       does-of L c openTrial ws zs s t a refl (subst (λ (y : List ℕ). Encodes L y t) (sym e) (open-encodes L laid ws s (means-encodes L ws s (a .means))))
 
-  pub keep-does : (c : ℕ) (ws zs : List ℕ) (s : State P) → Accepts L c keep ws s → zs ≡ writes (headWrites 0 0) ws → (t : State P) × (next (L .rules) keep (some s) ≡ some t) × Means L zs t
+  pub keep-does : (c : ℕ) (ws zs : List ℕ) (s : State P) → Accepts L c keep ws s → zs ≡ writes (headWrites 0 0) ws
+      → (t : State P) × (next (L .rules) keep (some s) ≡ some t) × Means L zs t
   keep-does c ws zs s a e =
       let t = withTrial s (s .routes) closed in
       does-of L c keep ws zs s t a refl (subst (λ (y : List ℕ). Encodes L y t) (sym e) (close-encodes L laid ws s (means-encodes L ws s (a .means))))

@@ -117,7 +117,8 @@ module _ {P : Type 0} (L : Layout P) where
       pub changesFine : ChangesFine L (s .capacity) ws (standingIn ws)
       pub undoable : Undoable (s .capacity) (decoded L (s .capacity) ws (standingIn ws)) (s .routes)
 
-    trial-says : (t : Trial P) → TrialThere L (s .capacity) ws t → AllChangesObey (L .rules) (changes t) → length (changes t) ≤ L .rules .standing → Undoable (s .capacity) (changes t) (s .routes) → TrialSays
+    trial-says : (t : Trial P) → TrialThere L (s .capacity) ws t → AllChangesObey (L .rules) (changes t) → length (changes t) ≤ L .rules .standing
+        → Undoable (s .capacity) (changes t) (s .routes) → TrialSays
     trial-says closed h o k u =
         let z : standingIn ws ≡ 0 = h .1 in record {
           known = omega (arith, h .0);
@@ -145,8 +146,12 @@ module _ {P : Type 0} (L : Layout P) where
           tree = m .tree;
           root = rooted;
           count = m .countThere ∙ ap length (sym (m .routesThere)) ∙ sym (route-count (m .tree));
-          routeMarks = all-there (isUsed L (s .capacity) ws Sort.Route) (s .capacity) _ (routes-picked L (s .capacity) ws (m .tree) rooted) (λ i h p. m .routePlacesUsed i h (passed (kindAt L ws i) p));
-          innerMarks = all-there (isUsed L (s .capacity) ws Sort.Inner) (s .capacity) _ (inners-picked L (s .capacity) ws (m .tree) rooted) (λ j h p. m .innerPlacesUsed j h (passed (markAt L (s .capacity) ws j) p));
+          routeMarks =
+              all-there (isUsed L (s .capacity) ws Sort.Route) (s .capacity) _ (routes-picked L (s .capacity) ws (m .tree) rooted)
+              (λ i h p. m .routePlacesUsed i h (passed (kindAt L ws i) p));
+          innerMarks =
+              all-there (isUsed L (s .capacity) ws Sort.Inner) (s .capacity) _ (inners-picked L (s .capacity) ws (m .tree) rooted)
+              (λ j h p. m .innerPlacesUsed j h (passed (markAt L (s .capacity) ws j) p));
           changesFine = t .changesFine;
           undoable = subst (Undoable (s .capacity) (decoded L (s .capacity) ws (standingIn ws))) (sym (m .routesThere)) (t .undoable);
         }

@@ -62,7 +62,8 @@ out-and-in reject = refl
 pub prefix-in : (p : Prefix) {a n : ℕ} → p .address ≡ a → p .length .0 ≡ n → prefixOf p ≡ prefixIn a n
 prefix-in p e f = rw (e, f)
 
-pub route-in : (p : Prefix) (h : Hop) {a n : ℕ} {x : ModelHop} → p .address ≡ a → p .length .0 ≡ n → hopOf h ≡ x → routeOf (record { prefix = p; hop = h }) ≡ record { prefix = prefixIn a n; payload = x }
+pub route-in : (p : Prefix) (h : Hop) {a n : ℕ} {x : ModelHop} → p .address ≡ a → p .length .0 ≡ n → hopOf h ≡ x
+    → routeOf (record { prefix = p; hop = h }) ≡ record { prefix = prefixIn a n; payload = x }
 route-in p h e f d = rw (e, f, d)
 
 pub route-words : (r : Route) (h : Hop) → r .hop ≡ h → r .prefix .address ∷ r .prefix .length .0 ∷ hopWords (hopOf h) ≡ routeWords (routeOf r)
@@ -88,11 +89,13 @@ refusal-is why.NoMatch z = omega (arith, z)
 refusal-is why.NoFurther z = omega (arith, z)
 
 -- a refusal, with nothing written
-pub out-refused : {P : ℕ → Value ModelHop → Type 0} (x : Refusal) {m n : ℕ} {w : Value ModelHop} {before : List ℕ} → m ≡ refusalNumber x → w ≡ nothing → n ≡ m → P m w → Out P n before before
+pub out-refused : {P : ℕ → Value ModelHop → Type 0} (x : Refusal) {m n : ℕ} {w : Value ModelHop} {before : List ℕ} → m ≡ refusalNumber x → w ≡ nothing → n ≡ m → P m w
+    → Out P n before before
 out-refused x {w = w} e f g p = record { shown = w; promised = rw g p; written = λ z. absurd (refusal-is x (sym e ∙ sym g ∙ z)); kept = λ z. refl }
 
 -- an answer, written
-pub out-shown : {P : ℕ → Value ModelHop → Type 0} (v : Value ModelHop) {m : ℕ} {w : Value ModelHop} {before after : List ℕ} → m ≡ 0 → w ≡ v → after ≡ valueWords v → P m w → Out P 0 before after
+pub out-shown : {P : ℕ → Value ModelHop → Type 0} (v : Value ModelHop) {m : ℕ} {w : Value ModelHop} {before after : List ℕ} → m ≡ 0 → w ≡ v → after ≡ valueWords v → P m w
+    → Out P 0 before after
 out-shown v {w = w} e f g p = record { shown = w; promised = rw e at p; written = λ z. rw f g; kept = λ z. absurd (z refl) }
 
 -- what was shown of an answer, of which more is promised

@@ -74,14 +74,16 @@ module _ {P : Type 0} (L : Layout P) (laid : Laid L) where
     pub put-count : Fit L c ws → countIn ws ≤ 65535
     put-count u = omega (arith, u .0, p .encodes .countThere, p .room, p .capacityIs)
 
-    pub first-done : (zs : List ℕ) (i : ℕ) → FreePlace L c ws Sort.Route i → PutRight L c ws (r .prefix) put.First → zs ≡ writes (firstWrites L ws i r) ws → Encodes L zs (withTrial s (insert r (s .routes)) (s .trial))
+    pub first-done : (zs : List ℕ) (i : ℕ) → FreePlace L c ws Sort.Route i → PutRight L c ws (r .prefix) put.First → zs ≡ writes (firstWrites L ws i r) ws
+        → Encodes L zs (withTrial s (insert r (s .routes)) (s .trial))
     first-done zs i f h e = subst (λ (x : List ℕ). Encodes L x (withTrial s (insert r (s .routes)) (s .trial))) (sym e) (go (p .encodes .tree) refl)
       where
         go : (t : Root ℕ (Seat P)) → p .encodes .tree ≡ t → Encodes L (writes (firstWrites L ws i r) ws) (withTrial s (insert r (s .routes)) (s .trial))
         go none is = first-encodes L laid ws s (p .encodes) (p .few) is i r (in-pool i f) (p .formed)
         go (some t) is = let st = stands L laid ws s (p .encodes) t is in absurd (plan-here put.First h .exact t (st .held) (st .good))
 
-    pub hung-done : (zs : List ℕ) (i cell : ℕ) → FreePlace L c ws Sort.Route i → PutRight L c ws (r .prefix) (put.Hang cell) → zs ≡ writes (hangWrites L ws i r cell) ws → Encodes L zs (withTrial s (insert r (s .routes)) (s .trial))
+    pub hung-done : (zs : List ℕ) (i cell : ℕ) → FreePlace L c ws Sort.Route i → PutRight L c ws (r .prefix) (put.Hang cell) → zs ≡ writes (hangWrites L ws i r cell) ws
+        → Encodes L zs (withTrial s (insert r (s .routes)) (s .trial))
     hung-done zs i cell f h e = subst (λ (x : List ℕ). Encodes L x (withTrial s (insert r (s .routes)) (s .trial))) (sym e) (go (p .encodes .tree) refl)
       where
         go : (t : Root ℕ (Seat P)) → p .encodes .tree ≡ t → Encodes L (writes (hangWrites L ws i r cell) ws) (withTrial s (insert r (s .routes)) (s .trial))
@@ -91,14 +93,18 @@ module _ {P : Type 0} (L : Layout P) (laid : Laid L) where
             hang-encodes L laid ws s (p .encodes) (p .few) t st i cell r (in-pool i f) (f .free) (plan-here (put.Hang cell) h .exact t (st .held) (st .good) (not-found t st)) (p .formed) (p .absent)
 
     -- the tree that an address is joined to
-    joins : (cell k : ℕ) → PutRight L c ws (r .prefix) (put.Join cell k) → (t : Root ℕ (Seat P)) → p .encodes .tree ≡ t → (t : Seated P) × Stands L laid ws s t × JoinsAt L (s .capacity) (r .prefix) t cell k
+    joins : (cell k : ℕ) → PutRight L c ws (r .prefix) (put.Join cell k) → (t : Root ℕ (Seat P)) → p .encodes .tree ≡ t
+        → (t : Seated P) × Stands L laid ws s t × JoinsAt L (s .capacity) (r .prefix) t cell k
     joins cell k h none is = let d = h .empty (no-root L ws s (p .encodes) is) in let z : _≡_ {A = ℕ} 0 1 = cc in absurd (omega arith)
     joins cell k h (some t) is = let st = stands L laid ws s (p .encodes) t is in (t, st, plan-here (put.Join cell k) h .exact t (st .held) (st .good))
 
     pub joins-low : (cell k : ℕ) → PutRight L c ws (r .prefix) (put.Join cell k) → k < L .rules .width
-    joins-low cell k h = let v = joins cell k h (p .encodes .tree) refl in part-apart (L .rules .width) (r .prefix .address) (reached (L .rules .width) (r .prefix .address) (bare (v .0))) k (v .2 .parts) (λ e. v .2 .new (sym e))
+    joins-low cell k h =
+        let v = joins cell k h (p .encodes .tree) refl in
+        part-apart (L .rules .width) (r .prefix .address) (reached (L .rules .width) (r .prefix .address) (bare (v .0))) k (v .2 .parts) (λ e. v .2 .new (sym e))
 
-    pub joined-done : (zs : List ℕ) (i j cell k : ℕ) → FreePlace L c ws Sort.Route i → FreePlace L c ws Sort.Inner j → PutRight L c ws (r .prefix) (put.Join cell k) → zs ≡ writes (joinWrites L ws c i j r k cell) ws
+    pub joined-done : (zs : List ℕ) (i j cell k : ℕ) → FreePlace L c ws Sort.Route i → FreePlace L c ws Sort.Inner j → PutRight L c ws (r .prefix) (put.Join cell k)
+        → zs ≡ writes (joinWrites L ws c i j r k cell) ws
         → Encodes L zs (withTrial s (insert r (s .routes)) (s .trial))
     joined-done zs i j cell k f g h e =
         let v = joins cell k h (p .encodes .tree) refl in
@@ -123,7 +129,8 @@ module _ {P : Type 0} (L : Layout P) (laid : Laid L) where
     at-here : (plan : TakePlan) → TakeRight L c ws p plan → TakenAt L (s .capacity) ws p (v .0) plan
     at-here plan h = subst (λ (x : ℕ). TakeRight L x ws p plan) (sym (g .capacityIs)) h .exact (v .0) (g .route) (v .1 .held) (v .1 .good) (v .2)
 
-    pub link-done : (zs : List ℕ) (cell : ℕ) (i : Place) → TakeRight L c ws p (taken.Link cell i) → zs ≡ writes (linkWrites L ws (i .0) cell) ws → Encodes L zs (withTrial s (remove p (s .routes)) (s .trial))
+    pub link-done : (zs : List ℕ) (cell : ℕ) (i : Place) → TakeRight L c ws p (taken.Link cell i) → zs ≡ writes (linkWrites L ws (i .0) cell) ws
+        → Encodes L zs (withTrial s (remove p (s .routes)) (s .trial))
     link-done zs cell i h e =
         let x = at-here (taken.Link cell i) h in
         subst (λ (y : List ℕ). Encodes L y (withTrial s (remove p (s .routes)) (s .trial))) (sym (e ∙ ap (λ (n : ℕ). writes (linkWrites L ws n cell) ws) (sym (x .2))))
@@ -157,7 +164,8 @@ module _ {P : Type 0} (L : Layout P) (laid : Laid L) where
         → Encodes L zs (withTrial s (replace (record { prefix = p; payload = o }) (s .routes)) (s .trial))
     swap-done zs o cell i h e =
         let x = held-here (at.At cell i) h in
-        subst (λ (y : List ℕ). Encodes L y (withTrial s (replace (record { prefix = p; payload = o }) (s .routes)) (s .trial))) (sym (e ∙ ap (λ (n : ℕ). writes (swapWrites L n o) ws) (sym (x .2))))
+        subst (λ (y : List ℕ). Encodes L y (withTrial s (replace (record { prefix = p; payload = o }) (s .routes)) (s .trial)))
+        (sym (e ∙ ap (λ (n : ℕ). writes (swapWrites L n o) ws) (sym (x .2))))
         (swap-encodes L laid ws s (g .encodes) (g .few) (v .0) (v .1) cell p (x .0) (x .1) o (g .route) (g .there))
 
     pub held-not : HeldRight L c ws p at.Nowhere → ⊥

@@ -42,26 +42,44 @@ use Rattle.edit.proofs.Encodes.{encodes-edit}
 module _ {P : Type 0} (L : Layout P) (laid : Laid L) where
   -- ---- the last route of the table
 
-  pub last-encodes : (ws : List ℕ) (s : State P) (e : Encodes L ws s) → length (changes (s .trial)) ≤ L .rules .standing → (x : Entry (Seat P)) (p : Prefix) (q : Route P) → x .length ≡ p .length
-      → Stands L laid ws s (leaf (p .address) (x ∷ [])) → find p (s .routes) ≡ some q → Encodes L (writes (lastWrites L ws (x .payload .place)) ws) (withTrial s (remove p (s .routes)) (s .trial))
+  pub last-encodes : (ws : List ℕ) (s : State P) (e : Encodes L ws s) → length (changes (s .trial)) ≤ L .rules .standing → (x : Entry (Seat P)) (p : Prefix) (q : Route P)
+      → x .length ≡ p .length
+      → Stands L laid ws s (leaf (p .address) (x ∷ [])) → find p (s .routes) ≡ some q
+      → Encodes L (writes (lastWrites L ws (x .payload .place)) ws) (withTrial s (remove p (s .routes)) (s .trial))
   last-encodes ws s e few x p q n st there =
       let i = x .payload .place in
       let zs = writes (lastWrites L ws i) ws in
       let small : i < s .capacity = st .held .1 .inPool in
       let taken : takeOut (L .rules .width) p (bare (leaf (p .address) (x ∷ []))) ≡ none = rw (eq-eqb (p .length) (x .length) (sym n)) in
       let before = ap (find p) (st .table) ∙ there in
-      encodes-edit L ws zs s (remove p (s .routes)) none e few (aside L laid ws (lastWrites L ws i) (s .capacity) (λ f. omega arith, (λ f. omega (arith, laid .seatPast i), (λ f. omega arith, tt))) (λ f. omega arith, (λ f. omega (arith, laid .seatPast i), (λ f. omega arith, tt))) (λ f. omega arith, (λ f. omega (arith, laid .seatPast i), (λ f. omega arith, tt))) (λ y k. (λ f. omega (arith, laid .slotFirst (s .capacity) 0), (λ f. omega (arith, laid .jointPast (s .capacity) i i small, laid .slotPast (s .capacity) i 0 small, payload-fits laid), (λ f. omega (arith, laid .slotFirst (s .capacity) 0), tt)))))
-      (word-on 1 (word ws 1 - 1) (lastWrites L ws i) ws (omega (arith, e .longEnough, head-in laid (s .capacity))) (inr (inr (inl (refl, refl, tt)))) ∙ omega (arith, e .countThere, length-remove p q (s .routes) there))
+      encodes-edit L ws zs s (remove p (s .routes)) none e few
+      (aside L laid ws (lastWrites L ws i) (s .capacity) (λ f. omega arith, (λ f. omega (arith, laid .seatPast i), (λ f. omega arith, tt)))
+      (λ f. omega arith, (λ f. omega (arith, laid .seatPast i), (λ f. omega arith, tt))) (λ f. omega arith, (λ f. omega (arith, laid .seatPast i), (λ f. omega arith, tt)))
+      (λ y k. (
+        λ f. omega (arith, laid .slotFirst (s .capacity) 0),
+        (
+          λ f. omega (arith, laid .jointPast (s .capacity) i i small, laid .slotPast (s .capacity) i 0 small, payload-fits laid),
+          (λ f. omega (arith, laid .slotFirst (s .capacity) 0), tt),
+        ),
+      )))
+      (word-on 1 (word ws 1 - 1) (lastWrites L ws i) ws (omega (arith, e .longEnough, head-in laid (s .capacity))) (inr (inr (inl (refl, refl, tt)))) ∙ omega
+      (arith, e .countThere, length-remove p q (s .routes) there))
       (word-on 2 0 (lastWrites L ws i) ws (omega (arith, e .longEnough, head-in laid (s .capacity))) (inl (refl, refl, (λ f. omega (arith, laid .seatPast i), (λ f. omega arith, tt))))) tt
       (ap rootRoutes (sym taken) ∙ take-routes (L .rules .width) p q (bare (leaf (p .address) (x ∷ []))) (st .good) before ∙ ap (remove p) (st .table))
       (λ y m u. gone y m u (eq-or-ne y i))
-      (λ y m u. st .innersUsed y m (subst (λ (z : ℕ). 1 ≤ z) (sym (word-off (L .joint (s .capacity) y) (lastWrites L ws i) ws (λ f. omega (arith, laid .jointFirst (s .capacity) y), (λ f. omega (arith, laid .jointPast (s .capacity) i y small, payload-fits laid), (λ f. omega (arith, laid .jointFirst (s .capacity) y), tt))))) u))
+      (λ y m u. st .innersUsed y m
+      (subst (λ (z : ℕ). 1 ≤ z) (sym (word-off (L .joint (s .capacity) y) (lastWrites L ws i) ws (
+        λ f. omega (arith, laid .jointFirst (s .capacity) y),
+        (λ f. omega (arith, laid .jointPast (s .capacity) i y small, payload-fits laid), (λ f. omega (arith, laid .jointFirst (s .capacity) y), tt)),
+      ))) u))
     where
       gone : (y : ℕ) → y < s .capacity → 1 ≤ kindAt L (writes (lastWrites L ws (x .payload .place)) ws) y → (y ≡ x .payload .place) ⊎ (y ≡ x .payload .place → ⊥) → Among y []
       gone y m u (inl f) =
           let i = x .payload .place in
           let small : i < s .capacity = st .held .1 .inPool in
-          let freed = word-on (L .seat i) 0 (lastWrites L ws i) ws (omega (arith, e .longEnough, seat-in laid (s .capacity) i small, payload-fits laid)) (inr (inl (refl, refl, (λ f. omega (arith, laid .seatPast i), tt)))) in
+          let freed =
+          word-on (L .seat i) 0 (lastWrites L ws i) ws (omega (arith, e .longEnough, seat-in laid (s .capacity) i small, payload-fits laid))
+          (inr (inl (refl, refl, (λ f. omega (arith, laid .seatPast i), tt)))) in
           absurd (omega (arith, freed, subst (λ (z : ℕ). 1 ≤ kindAt L (writes (lastWrites L ws i) ws) z) f u))
       gone y m u (inr d) =
           let i = x .payload .place in
@@ -70,7 +88,8 @@ module _ {P : Type 0} (L : Layout P) (laid : Laid L) where
 
   -- ---- a leaf with a sibling
 
-  step-holds : (c : ℕ) (ws : List ℕ) (d : Step ℕ (Seat P)) (w : List (Step ℕ (Seat P))) → HoldsWay L c ws (d ∷ w) → (placeOf d < c) × Holds L c ws (siblingLink L c ws d) (sibling d) × HoldsWay L c ws w
+  step-holds : (c : ℕ) (ws : List ℕ) (d : Step ℕ (Seat P)) (w : List (Step ℕ (Seat P))) → HoldsWay L c ws (d ∷ w)
+      → (placeOf d < c) × Holds L c ws (siblingLink L c ws d) (sibling d) × HoldsWay L c ws w
   step-holds c ws (wentLeft j b r) w h = (h .0, h .2, h .4)
   step-holds c ws (wentRight j b l) w h = (h .0, h .2, h .4)
 
@@ -86,7 +105,8 @@ module _ {P : Type 0} (L : Layout P) (laid : Laid L) where
   step-plug (wentLeft j b r) w = refl
   step-plug (wentRight j b l) w = refl
 
-  module _ (ws : List ℕ) (s : State P) (e : Encodes L ws s) (few : length (changes (s .trial)) ≤ L .rules .standing) (t : Seated P) (st : Stands L laid ws s t) (p : Prefix) (x : Entry (Seat P)) (d : Step ℕ (Seat P)) (w : List (Step ℕ (Seat P)))
+  module _ (ws : List ℕ) (s : State P) (e : Encodes L ws s) (few : length (changes (s .trial)) ≤ L .rules .standing) (t : Seated P) (st : Stands L laid ws s t) (p : Prefix)
+      (x : Entry (Seat P)) (d : Step ℕ (Seat P)) (w : List (Step ℕ (Seat P)))
       (q : Route P) (whole : plug (d ∷ w) (leaf (p .address) (x ∷ [])) ≡ t) (follows : Follows (L .rules .width) (p .address) (d ∷ w)) (n : x .length ≡ p .length) (there : find p (s .routes) ≡ some q) where
     heldOld : Holds L (s .capacity) ws (word ws 2) (plug (d ∷ w) (leaf (p .address) (x ∷ [])))
     heldOld = subst (Holds L (s .capacity) ws (word ws 2)) (sym whole) (st .held)
@@ -128,16 +148,50 @@ module _ {P : Type 0} (L : Layout P) (laid : Laid L) where
     route-kept y l m =
         let zs = dropWrites L ws (s .capacity) (x .payload .place) (placeOf d) (cellOf L (s .capacity) w) (siblingLink L (s .capacity) ws d) in
         route-whole L ws (writes zs ws) (cellOf L (s .capacity) w) y (no-next y l)
-        (route-spared L laid ws zs (cellOf L (s .capacity) w) y (λ z a b. (clear .route y z l a (omega (arith, laid .nextFits)) (omega arith), (λ f. omega (arith, laid .jointPast (s .capacity) y (placeOf d) l, laid .nextFits), (λ f. other-seat y (x .payload .place) z m a (omega (arith, laid .nextFits)) f, (λ f. omega (arith, laid .seatPast y), tt)))))
-        (λ f. (f, (λ g. omega (arith, laid .jointPast (s .capacity) y (placeOf d) l, laid .nextFits), (λ g. other-seat y (x .payload .place) (L .seat y + L .nextOffset) m (omega arith) (omega (arith, laid .nextFits)) g, (λ g. omega (arith, laid .seatPast y), tt))))))
+        (route-spared L laid ws zs (cellOf L (s .capacity) w) y
+        (λ z a b. (
+          clear .route y z l a (omega (arith, laid .nextFits)) (omega arith),
+          (
+            λ f. omega (arith, laid .jointPast (s .capacity) y (placeOf d) l, laid .nextFits),
+            (λ f. other-seat y (x .payload .place) z m a (omega (arith, laid .nextFits)) f, (λ f. omega (arith, laid .seatPast y), tt)),
+          ),
+        ))
+        (λ f. (
+          f,
+          (
+            λ g. omega (arith, laid .jointPast (s .capacity) y (placeOf d) l, laid .nextFits),
+            (
+              λ g. other-seat y (x .payload .place) (L .seat y + L .nextOffset) m (omega arith) (omega (arith, laid .nextFits)) g,
+              (λ g. omega (arith, laid .seatPast y), tt),
+            ),
+          ),
+        )))
 
     inner-kept : (y : ℕ) → y < s .capacity → (y ≡ placeOf d → ⊥)
         → InnerBut L (s .capacity) ws (writes (dropWrites L ws (s .capacity) (x .payload .place) (placeOf d) (cellOf L (s .capacity) w) (siblingLink L (s .capacity) ws d)) ws) (cellOf L (s .capacity) w) y
     inner-kept y l m =
-        inner-spared L laid ws (dropWrites L ws (s .capacity) (x .payload .place) (placeOf d) (cellOf L (s .capacity) w) (siblingLink L (s .capacity) ws d)) (s .capacity) (cellOf L (s .capacity) w) y
-        (clear .mark y l, (λ f. m (one-joint0 L laid (s .capacity) y (placeOf d) f), (λ f. omega (arith, laid .jointPast (s .capacity) (x .payload .place) y small, payload-fits laid), (λ f. omega (arith, laid .jointFirst (s .capacity) y), tt))))
-        (λ f. (f, (λ g. not-mark y 1 (omega arith) g, (λ g. omega (arith, laid .jointPast (s .capacity) (x .payload .place) y small, payload-fits laid), (λ g. omega (arith, laid .jointFirst (s .capacity) y), tt)))))
-        (λ f. (f, (λ g. not-mark y 2 (omega arith) g, (λ g. omega (arith, laid .jointPast (s .capacity) (x .payload .place) y small, payload-fits laid), (λ g. omega (arith, laid .jointFirst (s .capacity) y), tt)))))
+        inner-spared L laid ws (dropWrites L ws (s .capacity) (x .payload .place) (placeOf d) (cellOf L (s .capacity) w) (siblingLink L (s .capacity) ws d)) (s .capacity)
+        (cellOf L (s .capacity) w) y (
+          clear .mark y l,
+          (
+            λ f. m (one-joint0 L laid (s .capacity) y (placeOf d) f),
+            (λ f. omega (arith, laid .jointPast (s .capacity) (x .payload .place) y small, payload-fits laid), (λ f. omega (arith, laid .jointFirst (s .capacity) y), tt)),
+          ),
+        )
+        (λ f. (
+          f,
+          (
+            λ g. not-mark y 1 (omega arith) g,
+            (λ g. omega (arith, laid .jointPast (s .capacity) (x .payload .place) y small, payload-fits laid), (λ g. omega (arith, laid .jointFirst (s .capacity) y), tt)),
+          ),
+        ))
+        (λ f. (
+          f,
+          (
+            λ g. not-mark y 2 (omega arith) g,
+            (λ g. omega (arith, laid .jointPast (s .capacity) (x .payload .place) y small, payload-fits laid), (λ g. omega (arith, laid .jointFirst (s .capacity) y), tt)),
+          ),
+        ))
 
     -- the places that stay are in the pool, and none of them is one that goes
     on-way : (y : ℕ) → Among y (innerPlaces (sibling d) ++ wayInners w) → (y < s .capacity) × (y ≡ placeOf d → ⊥)
@@ -169,7 +223,9 @@ module _ {P : Type 0} (L : Layout P) (laid : Laid L) where
             → InnerSame L (s .capacity) ws (writes (dropWrites L ws (s .capacity) (x .payload .place) (placeOf d) (cellOf L (s .capacity) w) (siblingLink L (s .capacity) ws d)) ws) y
         go (inl f) = record { mark = b .mark; left = b .left (λ g. omega (arith, laid .jointFirst (s .capacity) y)); right = b .right (λ g. omega (arith, laid .jointFirst (s .capacity) y)) }
         go (inr v) =
-            inner-whole L laid (s .capacity) ws (writes (dropWrites L ws (s .capacity) (x .payload .place) (placeOf d) (cellOf L (s .capacity) w) (siblingLink L (s .capacity) ws d)) ws) (cellOf L (s .capacity) w) y (v .0) (v .2)
+            inner-whole L laid (s .capacity) ws
+            (writes (dropWrites L ws (s .capacity) (x .payload .place) (placeOf d) (cellOf L (s .capacity) w) (siblingLink L (s .capacity) ws d)) ws) (cellOf L (s .capacity) w) y
+            (v .0) (v .2)
             (λ f. sides .apart y k (subst (λ (z : ℕ). Among z (wayInners w)) (sym f) (v .1))) b
 
     dropped-holds : Holds L (s .capacity) (writes (dropWrites L ws (s .capacity) (x .payload .place) (placeOf d) (cellOf L (s .capacity) w) (siblingLink L (s .capacity) ws d)) ws)
@@ -179,7 +235,19 @@ module _ {P : Type 0} (L : Layout P) (laid : Laid L) where
         let zs = writes ys ws in
         let f = step-holds (s .capacity) ws d w way in
         let link = word-on (cellOf L (s .capacity) w) (siblingLink L (s .capacity) ws d) ys ws (omega (arith, clear .below, e .longEnough, laid .placesIn (s .capacity)))
-        (inl (refl, refl, (λ g. clear .mark (placeOf d) (f .0) (sym g), (λ g. clear .route (x .payload .place) (cellOf L (s .capacity) w) small (omega arith) (omega (arith, payload-fits laid)) (λ h. omega (arith, laid .inSeat)) refl, (clear .head .1, tt))))) in
+        (inl (
+          refl,
+          refl,
+          (
+            λ g. clear .mark (placeOf d) (f .0) (sym g),
+            (
+              λ g. clear .route (x .payload .place) (cellOf L (s .capacity) w) small (omega arith) (omega (arith, payload-fits laid)) (λ h. omega (arith, laid .inSeat))
+                  refl,
+              (clear .head .1, tt),
+            ),
+          ),
+        ))
+        in
         let stays : HoldsWay L (s .capacity) zs w = way-frame L laid (s .capacity) ws zs w (sides .second)
         (λ y k. let a = routes-on y (among-append y (routePlaces (sibling d)) (wayRoutes w) (inr k)) in route-kept y (a .0) (a .1))
         (λ y k. let a = on-way y (among-append y (innerPlaces (sibling d)) (wayInners w) (inr k)) in inner-kept y (a .0) (a .1))
@@ -205,31 +273,74 @@ module _ {P : Type 0} (L : Layout P) (laid : Laid L) where
         let before = ap (find p) (st .table) ∙ there in
         let f = step-holds (s .capacity) ws d w way in
         encodes-edit L ws zs s (remove p (s .routes)) (some (plug w (sibling d))) e few
-        (aside L laid ws ys (s .capacity) (λ g. clear .head .0 (sym g), (λ h. omega (arith, laid .jointFirst (s .capacity) (placeOf d)), (λ h. omega (arith, laid .seatPast (x .payload .place)), (λ h. omega arith, tt)))) (λ g. clear .head .2 (sym g), (λ h. omega (arith, laid .jointFirst (s .capacity) (placeOf d)), (λ h. omega (arith, laid .seatPast (x .payload .place)), (λ h. omega arith, tt))))
-        (λ g. clear .head .3 (sym g), (λ h. omega (arith, laid .jointFirst (s .capacity) (placeOf d)), (λ h. omega (arith, laid .seatPast (x .payload .place)), (λ h. omega arith, tt)))) (λ y k. (λ g. omega (arith, clear .below), (λ g. omega (arith, laid .slotPast (s .capacity) (placeOf d) 0 (f .0)), (λ g. omega (arith, laid .jointPast (s .capacity) (x .payload .place) (placeOf d) small, laid .slotPast (s .capacity) (placeOf d) 0 (f .0), payload-fits laid), (λ g. omega (arith, laid .slotFirst (s .capacity) 0), tt))))))
-        (word-on 1 (word ws 1 - 1) ys ws (omega (arith, e .longEnough, head-in laid (s .capacity))) (inr (inr (inr (inl (refl, refl, tt))))) ∙ omega (arith, e .countThere, length-remove p q (s .routes) there))
+        (aside L laid ws ys (s .capacity) (
+          λ g. clear .head .0 (sym g),
+          (λ h. omega (arith, laid .jointFirst (s .capacity) (placeOf d)), (λ h. omega (arith, laid .seatPast (x .payload .place)), (λ h. omega arith, tt))),
+        ) (
+          λ g. clear .head .2 (sym g),
+          (λ h. omega (arith, laid .jointFirst (s .capacity) (placeOf d)), (λ h. omega (arith, laid .seatPast (x .payload .place)), (λ h. omega arith, tt))),
+        )
+        (λ g. clear .head .3 (sym g), (λ h. omega (arith, laid .jointFirst (s .capacity) (placeOf d)), (λ h. omega (arith, laid .seatPast (x .payload .place)), (λ h. omega arith, tt))))
+        (λ y k. (
+          λ g. omega (arith, clear .below),
+          (
+            λ g. omega (arith, laid .slotPast (s .capacity) (placeOf d) 0 (f .0)),
+            (
+              λ g. omega
+                  (arith, laid .jointPast (s .capacity) (x .payload .place) (placeOf d) small, laid .slotPast (s .capacity) (placeOf d) 0 (f .0), payload-fits laid),
+              (λ g. omega (arith, laid .slotFirst (s .capacity) 0), tt),
+            ),
+          ),
+        )))
+        (word-on 1 (word ws 1 - 1) ys ws (omega (arith, e .longEnough, head-in laid (s .capacity))) (inr (inr (inr (inl (refl, refl, tt))))) ∙ omega
+        (arith, e .countThere, length-remove p q (s .routes) there))
         dropped-holds (subst (RootGood (L .rules .width)) bare-dropped (take-good (L .rules .width) p (bare t) (st .good)))
         (ap rootRoutes (sym bare-dropped) ∙ take-routes (L .rules .width) p q (bare t) (st .good) before ∙ ap (remove p) (st .table))
         (λ y m u. used y m u (eq-or-ne y (x .payload .place))) (λ y m u. usedInner y m u (eq-or-ne y (placeOf d)))
       where
-        used : (y : ℕ) → y < s .capacity → 1 ≤ kindAt L (writes (dropWrites L ws (s .capacity) (x .payload .place) (placeOf d) (cellOf L (s .capacity) w) (siblingLink L (s .capacity) ws d)) ws) y
+        used : (y : ℕ) → y < s .capacity
+            → 1 ≤ kindAt L (writes (dropWrites L ws (s .capacity) (x .payload .place) (placeOf d) (cellOf L (s .capacity) w) (siblingLink L (s .capacity) ws d)) ws) y
             → (y ≡ x .payload .place) ⊎ (y ≡ x .payload .place → ⊥) → Among y (routePlaces (plug w (sibling d)))
         used y m u (inl f) =
             let freed = word-on (L .seat (x .payload .place)) 0 (dropWrites L ws (s .capacity) (x .payload .place) (placeOf d) (cellOf L (s .capacity) w) (siblingLink L (s .capacity) ws d)) ws
-            (omega (arith, e .longEnough, seat-in laid (s .capacity) (x .payload .place) small, payload-fits laid)) (inr (inr (inl (refl, refl, (λ h. omega (arith, laid .seatPast (x .payload .place)), tt))))) in
-            absurd (omega (arith, freed, subst (λ (z : ℕ). 1 ≤ kindAt L (writes (dropWrites L ws (s .capacity) (x .payload .place) (placeOf d) (cellOf L (s .capacity) w) (siblingLink L (s .capacity) ws d)) ws) z) f u))
+            (omega (arith, e .longEnough, seat-in laid (s .capacity) (x .payload .place) small, payload-fits laid))
+            (inr (inr (inl (refl, refl, (λ h. omega (arith, laid .seatPast (x .payload .place)), tt))))) in
+            absurd
+            (omega (
+              arith,
+              freed,
+              subst (λ (z : ℕ). 1 ≤ kindAt L
+                  (writes (dropWrites L ws (s .capacity) (x .payload .place) (placeOf d) (cellOf L (s .capacity) w) (siblingLink L (s .capacity) ws d)) ws) z) f u,
+            ))
         used y m u (inr g) =
             let was = st .routesUsed y m (subst (λ (z : ℕ). 1 ≤ z) (sym (route-kept y m g .kind)) u) in
             let there = routes-plug (d ∷ w) (leaf (p .address) (x ∷ [])) y (subst (λ (z : Seated P). Among y (routePlaces z)) (sym whole) was) in
-            plug-routes w (sibling d) y (⊎-elim (λ k. absurd (⊎-elim (λ f. g f) (λ z. z) k)) (λ k. append-among y (routePlaces (sibling d)) (wayRoutes w) (subst (Among y) (step-routes d w) k)) there)
+            plug-routes w (sibling d) y
+            (⊎-elim (λ k. absurd (⊎-elim (λ f. g f) (λ z. z) k)) (λ k. append-among y (routePlaces (sibling d)) (wayRoutes w) (subst (Among y) (step-routes d w) k)) there)
 
-        usedInner : (y : ℕ) → y < s .capacity → 1 ≤ markAt L (s .capacity) (writes (dropWrites L ws (s .capacity) (x .payload .place) (placeOf d) (cellOf L (s .capacity) w) (siblingLink L (s .capacity) ws d)) ws) y
+        usedInner : (y : ℕ) → y < s .capacity
+            → 1 ≤ markAt L (s .capacity) (writes (dropWrites L ws (s .capacity) (x .payload .place) (placeOf d) (cellOf L (s .capacity) w) (siblingLink L (s .capacity) ws d)) ws) y
             → (y ≡ placeOf d) ⊎ (y ≡ placeOf d → ⊥) → Among y (innerPlaces (plug w (sibling d)))
         usedInner y m u (inl f) =
             let h = step-holds (s .capacity) ws d w way in
             let freed = word-on (L .joint (s .capacity) (placeOf d)) 0 (dropWrites L ws (s .capacity) (x .payload .place) (placeOf d) (cellOf L (s .capacity) w) (siblingLink L (s .capacity) ws d)) ws
-            (omega (arith, e .longEnough, joint-in laid (s .capacity) (placeOf d) (h .0))) (inr (inl (refl, refl, (λ g. omega (arith, laid .jointPast (s .capacity) (x .payload .place) (placeOf d) small, payload-fits laid), (λ g. omega (arith, laid .jointFirst (s .capacity) (placeOf d)), tt))))) in
-            absurd (omega (arith, freed, subst (λ (z : ℕ). 1 ≤ markAt L (s .capacity) (writes (dropWrites L ws (s .capacity) (x .payload .place) (placeOf d) (cellOf L (s .capacity) w) (siblingLink L (s .capacity) ws d)) ws) z) f u))
+            (omega (arith, e .longEnough, joint-in laid (s .capacity) (placeOf d) (h .0)))
+            (inr (inl (
+              refl,
+              refl,
+              (
+                λ g. omega (arith, laid .jointPast (s .capacity) (x .payload .place) (placeOf d) small, payload-fits laid),
+                (λ g. omega (arith, laid .jointFirst (s .capacity) (placeOf d)), tt),
+              ),
+            )))
+            in
+            absurd
+            (omega (
+              arith,
+              freed,
+              subst (λ (z : ℕ). 1 ≤ markAt L (s .capacity)
+                  (writes (dropWrites L ws (s .capacity) (x .payload .place) (placeOf d) (cellOf L (s .capacity) w) (siblingLink L (s .capacity) ws d)) ws) z) f u,
+            ))
         usedInner y m u (inr g) =
             let was = st .innersUsed y m (subst (λ (z : ℕ). 1 ≤ z) (sym (inner-kept y m g .mark)) u) in
             let there = inners-plug (d ∷ w) (leaf (p .address) (x ∷ [])) y (subst (λ (z : Seated P). Among y (innerPlaces z)) (sym whole) was) in

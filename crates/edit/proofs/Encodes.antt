@@ -64,7 +64,8 @@ module _ {P : Type 0} (L : Layout P) where
       (sym (a .trial) ∙ h .0, subst (λ (x : ℕ). Recorded L c zs x cs) (a .standing) (recorded-frame L c ws zs (standingIn ws) cs (λ k g. a .slots k (le-trans g m)) (h .1)))
 
   -- another tree in the same pool: the state with its routes
-  pub encodes-edit : (ws zs : List ℕ) (s : State P) (l : List (Route P)) (t : Root ℕ (Seat P)) → Encodes L ws s → length (changes (s .trial)) ≤ L .rules .standing → Aside (s .capacity) ws zs
+  pub encodes-edit : (ws zs : List ℕ) (s : State P) (l : List (Route P)) (t : Root ℕ (Seat P)) → Encodes L ws s → length (changes (s .trial)) ≤ L .rules .standing
+      → Aside (s .capacity) ws zs
       → word zs 1 ≡ length l → HoldsRoot L (s .capacity) zs (word zs 2) t → RootGood (L .rules .width) (bareRoot t) → rootRoutes (bareRoot t) ≡ l
       → ((i : ℕ) → i < s .capacity → 1 ≤ kindAt L zs i → Among i (routesUsed t)) → ((j : ℕ) → j < s .capacity → 1 ≤ markAt L (s .capacity) zs j → Among j (innersUsed t))
       → Encodes L zs (withTrial s l (s .trial))

@@ -46,8 +46,11 @@ module _ {P : Type 0} (L : Layout P) (laid : Laid L) where
         let written : (x v : ℕ) → x < length ws → (h : Rattle.pool.proofs.Writes.On x v ((2, toRoute i) ∷ (1, word ws 1 + 1) ∷ [])) → word zs x ≡ v =
         λ x v f h. word-on x v (firstWrites L ws i r) ws f (on-right x v (routeWrites L i r 0) ((2, toRoute i) ∷ (1, word ws 1 + 1) ∷ []) h) in
         encodes-edit L ws zs s (insert r (s .routes)) (some (leaf a (entryAt L i r ∷ []))) e few
-        (aside L laid ws (firstWrites L ws i r) (s .capacity) (off 0 (inl (omega (arith, laid .seatPast i))) (omega arith) (omega arith)) (off 3 (inl (omega (arith, laid .seatPast i))) (omega arith) (omega arith))
-        (off 4 (inl (omega (arith, laid .seatPast i))) (omega arith) (omega arith)) (λ x n. off x (inr (omega (arith, laid .jointPast (s .capacity) i i l, laid .slotPast (s .capacity) i 0 l))) (λ f. omega (arith, laid .slotFirst (s .capacity) 0)) (λ f. omega (arith, laid .slotFirst (s .capacity) 0))))
+        (aside L laid ws (firstWrites L ws i r) (s .capacity) (off 0 (inl (omega (arith, laid .seatPast i))) (omega arith) (omega arith))
+        (off 3 (inl (omega (arith, laid .seatPast i))) (omega arith) (omega arith))
+        (off 4 (inl (omega (arith, laid .seatPast i))) (omega arith) (omega arith))
+        (λ x n. off x (inr (omega (arith, laid .jointPast (s .capacity) i i l, laid .slotPast (s .capacity) i 0 l))) (λ f. omega (arith, laid .slotFirst (s .capacity) 0))
+        (λ f. omega (arith, laid .slotFirst (s .capacity) 0))))
         (written 1 (word ws 1 + 1) (omega (arith, e .longEnough, head-in laid (s .capacity))) (inr (inl (refl, refl, tt))) ∙ omega (arith, e .countThere, length-insert r (s .routes))) (
           written 2 (toRoute i) (omega (arith, e .longEnough, head-in laid (s .capacity))) (inl (refl, refl, (omega arith, tt))),
           route-written L laid (s .capacity) ws i r 0 ((2, toRoute i) ∷ (1, word ws 1 + 1) ∷ []) l (e .longEnough) seat-off,
@@ -61,10 +64,16 @@ module _ {P : Type 0} (L : Layout P) (laid : Laid L) where
             go : (p ≡ i) ⊎ (p ≡ i → ⊥) → Among p (i ∷ [])
             go (inl f) = inl f
             go (inr d) =
-                let same = word-off (L .seat p) (firstWrites L ws i r) ws (off (L .seat p) (seats-apart L laid p i (L .seat p) d (omega arith) (omega (arith, payload-fits laid))) (λ f. omega (arith, laid .seatPast p)) (λ f. omega (arith, laid .seatPast p))) in
+                let same =
+                word-off (L .seat p) (firstWrites L ws i r) ws
+                (off (L .seat p) (seats-apart L laid p i (L .seat p) d (omega arith) (omega (arith, payload-fits laid))) (λ f. omega (arith, laid .seatPast p))
+                (λ f. omega (arith, laid .seatPast p))) in
                 absurd (subst (λ (x : Root ℕ (Seat P)). Among p (routesUsed x)) is (e .routePlacesUsed p n (subst (λ (x : ℕ). 1 ≤ x) (sym same) u)))
 
         usedInner : (q : ℕ) → q < s .capacity → 1 ≤ markAt L (s .capacity) (writes (firstWrites L ws i r) ws) q → Among q []
         usedInner q n u =
-            let same = word-off (L .joint (s .capacity) q) (firstWrites L ws i r) ws (off (L .joint (s .capacity) q) (inr (laid .jointPast (s .capacity) i q l)) (λ f. omega (arith, laid .jointFirst (s .capacity) q)) (λ f. omega (arith, laid .jointFirst (s .capacity) q))) in
+            let same =
+            word-off (L .joint (s .capacity) q) (firstWrites L ws i r) ws
+            (off (L .joint (s .capacity) q) (inr (laid .jointPast (s .capacity) i q l)) (λ f. omega (arith, laid .jointFirst (s .capacity) q))
+            (λ f. omega (arith, laid .jointFirst (s .capacity) q))) in
             subst (λ (x : Root ℕ (Seat P)). Among q (innersUsed x)) is (e .innerPlacesUsed q n (subst (λ (x : ℕ). 1 ≤ x) (sym same) u))

@@ -44,7 +44,8 @@ use Rattle.edit.proofs.Encodes.{encodes-edit}
 
 module _ {P : Type 0} (L : Layout P) where
   -- between its longer and its shorter routes a route hangs longest first
-  hang-split : (e : Entry (Seat P)) (xs ys : List (Entry (Seat P))) → Longer (e .length) xs → Shorter (e .length) (bareEntries ys) → hang (bareEntry e) (bareEntries (xs ++ ys)) ≡ bareEntries (xs ++ (e ∷ ys))
+  hang-split : (e : Entry (Seat P)) (xs ys : List (Entry (Seat P))) → Longer (e .length) xs → Shorter (e .length) (bareEntries ys)
+      → hang (bareEntry e) (bareEntries (xs ++ ys)) ≡ bareEntries (xs ++ (e ∷ ys))
   hang-split e [] [] l s = refl
   hang-split e [] (y ∷ ys) l s = rw (lt-ltb (y .length) (e .length) (s .0))
   hang-split e (x ∷ xs) ys l s =
@@ -108,7 +109,8 @@ module _ {P : Type 0} (L : Layout P) (laid : Laid L) where
         let a = r .prefix .address in
         let from = cellOf L (s .capacity) (h .way) in
         let chain = leaf-chain L (s .capacity) ws (word ws from) a (h .longer ++ h .shorter) (plug-way L (s .capacity) ws (h .way) (leaf a (h .longer ++ h .shorter)) heldOld .1) in
-        let behind : Chain L (s .capacity) ws a (word ws cell) (h .shorter) = subst (λ (x : ℕ). Chain L (s .capacity) ws a (word ws x) (h .shorter)) (h .cellIs) (chain-split L (s .capacity) ws a from (h .longer) (h .shorter) chain .1) in
+        let behind : Chain L (s .capacity) ws a (word ws cell) (h .shorter) =
+        subst (λ (x : ℕ). Chain L (s .capacity) ws a (word ws x) (h .shorter)) (h .cellIs) (chain-split L (s .capacity) ws a from (h .longer) (h .shorter) chain .1) in
         let next = next-written L laid (s .capacity) ws i r (word ws cell) ((cell, toRoute i) ∷ (1, word ws 1 + 1) ∷ []) l (e .longEnough) seat-off in
         let rest = rest-stays L laid (s .capacity) ws zs (h .way) a (h .longer) [] (h .shorter) heldOld distinctRoutes distinctInners left (word ws cell) behind in
         rehung-holds L laid (s .capacity) ws zs (h .way) a (h .longer) [] (h .shorter) heldOld distinctRoutes distinctInners left (entryAt L i r ∷ h .shorter)
@@ -124,7 +126,8 @@ module _ {P : Type 0} (L : Layout P) (laid : Laid L) where
         let a = r .prefix .address in
         let w = h .way in
         bare-plug w (leaf a (h .longer ++ (entryAt L i r ∷ h .shorter)))
-        ∙ ap (λ (es : List (Entry P)). plug (bareWay w) (leaf a es)) (sym (hang-split L (entryAt L i r) (h .longer) (h .shorter) (h .longerAre) (shorter-bare L (r .prefix .length) (h .shorter) (h .shorterAre))))
+        ∙ ap (λ (es : List (Entry P)). plug (bareWay w) (leaf a es))
+        (sym (hang-split L (entryAt L i r) (h .longer) (h .shorter) (h .longerAre) (shorter-bare L (r .prefix .length) (h .shorter) (h .shorterAre))))
         ∙ sym (hang-plug (L .rules .width) a (bareEntry (entryAt L i r)) (bareWay w) (leaf a (bareEntries (h .longer ++ h .shorter))) (bare-follows (L .rules .width) a w (h .follows)))
         ∙ ap (hangAt (L .rules .width) a (bareEntry (entryAt L i r))) (sym (bare-plug w (leaf a (h .longer ++ h .shorter))) ∙ ap bare (h .whole))
 
@@ -137,7 +140,8 @@ module _ {P : Type 0} (L : Layout P) (laid : Laid L) where
     absent : find (r .prefix) (routes (bare t)) ≡ none
     absent = ap (find (r .prefix)) (st .table) ∙ new
 
-    used : (p : ℕ) → p < s .capacity → 1 ≤ kindAt L (writes (hangWrites L ws i r cell) ws) p → Among p (routePlaces (plug (h .way) (leaf (r .prefix .address) (h .longer ++ (entryAt L i r ∷ h .shorter)))))
+    used : (p : ℕ) → p < s .capacity → 1 ≤ kindAt L (writes (hangWrites L ws i r cell) ws) p
+        → Among p (routePlaces (plug (h .way) (leaf (r .prefix .address) (h .longer ++ (entryAt L i r ∷ h .shorter)))))
     used p m u = plug-routes (h .way) (leaf (r .prefix .address) (h .longer ++ (entryAt L i r ∷ h .shorter))) p (go (eq-or-ne p i))
       where
         into : Among p (chainPlaces (h .longer)) ⊎ Among p (chainPlaces (entryAt L i r ∷ h .shorter)) → Among p (chainPlaces (h .longer ++ (entryAt L i r ∷ h .shorter)))
@@ -150,9 +154,11 @@ module _ {P : Type 0} (L : Layout P) (laid : Laid L) where
         go (inl f) = inl (into (inr (inl f)))
         go (inr n) =
             let was = st .routesUsed p m (subst (λ (x : ℕ). 1 ≤ x) (sym (route-touch L laid (s .capacity) ws i cell (hangWrites L ws i r cell) l clear off p m n .kind)) u) in
-            ⊎-elim (λ k. inl (before k)) (λ k. inr k) (routes-plug (h .way) (leaf (r .prefix .address) (h .longer ++ h .shorter)) p (subst (λ (x : Seated P). Among p (routePlaces x)) (sym (h .whole)) was))
+            ⊎-elim (λ k. inl (before k)) (λ k. inr k)
+            (routes-plug (h .way) (leaf (r .prefix .address) (h .longer ++ h .shorter)) p (subst (λ (x : Seated P). Among p (routePlaces x)) (sym (h .whole)) was))
 
-    usedInner : (q : ℕ) → q < s .capacity → 1 ≤ markAt L (s .capacity) (writes (hangWrites L ws i r cell) ws) q → Among q (innerPlaces (plug (h .way) (leaf (r .prefix .address) (h .longer ++ (entryAt L i r ∷ h .shorter)))))
+    usedInner : (q : ℕ) → q < s .capacity → 1 ≤ markAt L (s .capacity) (writes (hangWrites L ws i r cell) ws) q
+        → Among q (innerPlaces (plug (h .way) (leaf (r .prefix .address) (h .longer ++ (entryAt L i r ∷ h .shorter)))))
     usedInner q m u =
         let was = st .innersUsed q m (subst (λ (x : ℕ). 1 ≤ x) (sym (inner-touch L laid (s .capacity) ws i cell (hangWrites L ws i r cell) l clear off q m .mark)) u) in
         plug-inners (h .way) (leaf (r .prefix .address) (h .longer ++ (entryAt L i r ∷ h .shorter))) q
@@ -165,7 +171,8 @@ module _ {P : Type 0} (L : Layout P) (laid : Laid L) where
         let be = bareEntry (entryAt L i r) in
         encodes-edit L ws zs s (insert r (s .routes)) (some tree) e few
         (aside-touch L laid (s .capacity) ws i cell (hangWrites L ws i r cell) l clear off)
-        (word-on 1 (word ws 1 + 1) (hangWrites L ws i r cell) ws (omega (arith, e .longEnough, head-in laid (s .capacity))) (on-right 1 (word ws 1 + 1) (routeWrites L i r (word ws cell)) ((cell, toRoute i) ∷ (1, word ws 1 + 1) ∷ []) (inr (inl (refl, refl, tt))))
+        (word-on 1 (word ws 1 + 1) (hangWrites L ws i r cell) ws (omega (arith, e .longEnough, head-in laid (s .capacity)))
+        (on-right 1 (word ws 1 + 1) (routeWrites L i r (word ws cell)) ((cell, toRoute i) ∷ (1, word ws 1 + 1) ∷ []) (inr (inl (refl, refl, tt))))
         ∙ omega (arith, e .countThere, length-insert r (s .routes)))
         hung-holds (subst (Good (L .rules .width)) (sym bare-hung) (hang-good (L .rules .width) (r .prefix .address) be (bare t) (st .good) reached-here formed absent))
         (ap routes bare-hung ∙ hang-routes (L .rules .width) (r .prefix .address) be (bare t) (st .good) reached-here ∙ ap (insert r) (st .table)) used usedInner

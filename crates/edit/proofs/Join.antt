@@ -28,7 +28,8 @@ module _ {P : Type 0} (L : Layout P) (laid : Laid L) where
     pub root : (2 ≡ cell → ⊥) → word ws 2 ≡ word zs 2
 
   -- the cell at the end of a way that is not empty is a side of one of its places
-  pub cell-owner : (c : ℕ) (w : List (Step ℕ (Seat P))) → (cellOf L c w ≡ 2) ⊎ ((j : ℕ) × Among j (wayInners w) × ((cellOf L c w ≡ L .joint c j + 1) ⊎ (cellOf L c w ≡ L .joint c j + 2)))
+  pub cell-owner : (c : ℕ) (w : List (Step ℕ (Seat P)))
+      → (cellOf L c w ≡ 2) ⊎ ((j : ℕ) × Among j (wayInners w) × ((cellOf L c w ≡ L .joint c j + 1) ⊎ (cellOf L c w ≡ L .joint c j + 2)))
   cell-owner c [] = inl refl
   cell-owner c (wentLeft j b r ∷ w) = inr (j, inl refl, inl refl)
   cell-owner c (wentRight j b l ∷ w) = inr (j, inl refl, inr refl)
@@ -63,7 +64,8 @@ module _ {P : Type 0} (L : Layout P) (laid : Laid L) where
     part-stays = holds-frame L c ws zs (word ws (cellOf L c w)) t (λ p k. route-kept p (plug-routes w t p (inl k))) part-inner (plug-way L c ws w t held .1)
 
     -- the new leaf beside it
-    pub join-holds : (a k : ℕ) (e : Entry (Seat P)) → e .payload .place ≡ i → InPlace L c zs a e → nextAt L zs i ≡ 0 → j < c → markAt L c zs j ≡ suc k → word zs (cellOf L c w) ≡ toInner j
+    pub join-holds : (a k : ℕ) (e : Entry (Seat P)) → e .payload .place ≡ i → InPlace L c zs a e → nextAt L zs i ≡ 0 → j < c → markAt L c zs j ≡ suc k
+        → word zs (cellOf L c w) ≡ toInner j
         → toward (bit (L .rules .width) k a) ((leftAt L c zs j ≡ toRoute i) × (rightAt L c zs j ≡ word ws (cellOf L c w))) ((leftAt L c zs j ≡ word ws (cellOf L c w)) × (rightAt L c zs j ≡ toRoute i))
         → Holds L c zs (word zs 2) (plug w (join (L .rules .width) j k a e t))
     join-holds a k e p here last l m link sides = way-plug L c zs w (join (L .rules .width) j k a e t) way-stays (go (side (L .rules .width) k a))

@@ -103,7 +103,9 @@ module _ {P : Type 0} (L : Layout P) (laid : Laid L) where
     off x a b d f =
         off-append x (routeWrites L i r 0) (innerJoin L ws (s .capacity) i j r k cell ++ ((cell, toInner j) ∷ (1, word ws 1 + 1) ∷ [])) (off-route L laid x i r 0 a)
         (off-append x (innerJoin L ws (s .capacity) i j r k cell) ((cell, toInner j) ∷ (1, word ws 1 + 1) ∷ [])
-        (off-inner L laid x (s .capacity) j k (toward (bit (L .rules .width) k (r .prefix .address)) (toRoute i) (word ws cell)) (toward (bit (L .rules .width) k (r .prefix .address)) (word ws cell) (toRoute i)) b) (d, (f, tt)))
+        (off-inner L laid x (s .capacity) j k (toward (bit (L .rules .width) k (r .prefix .address)) (toRoute i) (word ws cell))
+        (toward (bit (L .rules .width) k (r .prefix .address)) (word ws cell) (toRoute i)) b)
+        (d, (f, tt)))
 
     no-next : (p : ℕ) → p < s .capacity → L .seat p + L .nextOffset ≡ cell → ⊥
     no-next p n f = cell-range L laid (s .capacity) (h .way) p n (h .cellIs ∙ sym f)
@@ -112,28 +114,35 @@ module _ {P : Type 0} (L : Layout P) (laid : Laid L) where
     route-off p n d =
         route-whole L ws (writes (joinWrites L ws (s .capacity) i j r k cell) ws) cell p (no-next p n)
         (route-spared L laid ws (joinWrites L ws (s .capacity) i j r k cell) cell p
-        (λ x a b. off x (seats-apart L laid p i x d a (omega (arith, laid .nextFits))) (inl (omega (arith, laid .jointPast (s .capacity) p j n, laid .nextFits))) (clear .route p x n a (omega (arith, laid .nextFits)) (omega arith)) (omega (arith, laid .seatPast p)))
-        (λ f. off (L .seat p + L .nextOffset) (seats-apart L laid p i (L .seat p + L .nextOffset) d (omega arith) (omega (arith, laid .nextFits))) (inl (omega (arith, laid .jointPast (s .capacity) p j n, laid .nextFits))) f (omega (arith, laid .seatPast p))))
+        (λ x a b. off x (seats-apart L laid p i x d a (omega (arith, laid .nextFits))) (inl (omega (arith, laid .jointPast (s .capacity) p j n, laid .nextFits)))
+        (clear .route p x n a (omega (arith, laid .nextFits)) (omega arith)) (omega (arith, laid .seatPast p)))
+        (λ f. off (L .seat p + L .nextOffset) (seats-apart L laid p i (L .seat p + L .nextOffset) d (omega arith) (omega (arith, laid .nextFits)))
+        (inl (omega (arith, laid .jointPast (s .capacity) p j n, laid .nextFits))) f (omega (arith, laid .seatPast p))))
 
     inner-off : (q : ℕ) → q < s .capacity → (q ≡ j → ⊥) → InnerBut L (s .capacity) ws (writes (joinWrites L ws (s .capacity) i j r k cell) ws) cell q
     inner-off q n d =
         inner-spared L laid ws (joinWrites L ws (s .capacity) i j r k cell) (s .capacity) cell q
-        (off (L .joint (s .capacity) q) (inr (laid .jointPast (s .capacity) i q l)) (joints-apart L laid (s .capacity) q j _ d (omega arith) (omega arith)) (clear .mark q n) (omega (arith, laid .jointFirst (s .capacity) q)))
-        (λ f. off (L .joint (s .capacity) q + 1) (inr (omega (arith, laid .jointPast (s .capacity) i q l))) (joints-apart L laid (s .capacity) q j _ d (omega arith) (omega arith)) f (omega (arith, laid .jointFirst (s .capacity) q)))
-        (λ f. off (L .joint (s .capacity) q + 2) (inr (omega (arith, laid .jointPast (s .capacity) i q l))) (joints-apart L laid (s .capacity) q j _ d (omega arith) (omega arith)) f (omega (arith, laid .jointFirst (s .capacity) q)))
+        (off (L .joint (s .capacity) q) (inr (laid .jointPast (s .capacity) i q l)) (joints-apart L laid (s .capacity) q j _ d (omega arith) (omega arith)) (clear .mark q n)
+        (omega (arith, laid .jointFirst (s .capacity) q)))
+        (λ f. off (L .joint (s .capacity) q + 1) (inr (omega (arith, laid .jointPast (s .capacity) i q l)))
+        (joints-apart L laid (s .capacity) q j _ d (omega arith) (omega arith)) f (omega (arith, laid .jointFirst (s .capacity) q)))
+        (λ f. off (L .joint (s .capacity) q + 2) (inr (omega (arith, laid .jointPast (s .capacity) i q l)))
+        (joints-apart L laid (s .capacity) q j _ d (omega arith) (omega arith)) f (omega (arith, laid .jointFirst (s .capacity) q)))
 
     stays : Stays L laid (s .capacity) ws (writes (joinWrites L ws (s .capacity) i j r k cell) ws) (cellOf L (s .capacity) (h .way)) i j
     stays = record {
       routes = route-off;
       inners = λ q n d. subst (λ (x : ℕ). InnerBut L (s .capacity) ws (writes (joinWrites L ws (s .capacity) i j r k cell) ws) x q) (sym (h .cellIs)) (inner-off q n d);
-      root = λ f. word-off 2 (joinWrites L ws (s .capacity) i j r k cell) ws (off 2 (inl (omega (arith, laid .seatPast i))) (inl (omega (arith, laid .jointFirst (s .capacity) j))) (λ g. f (g ∙ sym (h .cellIs))) (omega arith));
+      root =
+          λ f. word-off 2 (joinWrites L ws (s .capacity) i j r k cell) ws (off 2 (inl (omega (arith, laid .seatPast i))) (inl (omega (arith, laid .jointFirst (s .capacity) j))) (λ g. f (g ∙ sym (h .cellIs))) (omega arith));
     }
 
     -- the cell is not in the new inner place
     cell-off : OffJoint L laid (s .capacity) cell j
     cell-off = go (cell-owner L laid (s .capacity) (h .way))
       where
-        go : (cellOf L (s .capacity) (h .way) ≡ 2) ⊎ ((o : ℕ) × Among o (wayInners (h .way)) × ((cellOf L (s .capacity) (h .way) ≡ L .joint (s .capacity) o + 1) ⊎ (cellOf L (s .capacity) (h .way) ≡ L .joint (s .capacity) o + 2))) → OffJoint L laid (s .capacity) cell j
+        go : (cellOf L (s .capacity) (h .way) ≡ 2) ⊎ ((o : ℕ) × Among o (wayInners (h .way)) × ((cellOf L (s .capacity) (h .way) ≡ L .joint (s .capacity) o + 1) ⊎ (cellOf L (s .capacity) (h .way) ≡ L .joint (s .capacity) o + 2)))
+            → OffJoint L laid (s .capacity) cell j
         go (inl f) = inl (omega (arith, f, h .cellIs, laid .jointFirst (s .capacity) j))
         go (inr v) =
             let apart : v .0 ≡ j → ⊥ = λ f. newInner (plug-inners (h .way) (h .part) j (inr (subst (λ (x : ℕ). Among x (wayInners (h .way))) f (v .1)))) in
@@ -141,16 +150,19 @@ module _ {P : Type 0} (L : Layout P) (laid : Laid L) where
             (λ f. joints-apart L laid (s .capacity) (v .0) j cell apart (omega (arith, f, h .cellIs)) (omega (arith, f, h .cellIs))) (v .2)
 
     -- what is written in the new inner place
-    in-joint : (x v : ℕ) → L .joint (s .capacity) j ≤ x → x < L .joint (s .capacity) j + 3 → On x v (innerJoin L ws (s .capacity) i j r k cell) → word (writes (joinWrites L ws (s .capacity) i j r k cell) ws) x ≡ v
+    in-joint : (x v : ℕ) → L .joint (s .capacity) j ≤ x → x < L .joint (s .capacity) j + 3 → On x v (innerJoin L ws (s .capacity) i j r k cell)
+        → word (writes (joinWrites L ws (s .capacity) i j r k cell) ws) x ≡ v
     in-joint x v a b o =
         word-on x v (joinWrites L ws (s .capacity) i j r k cell) ws (omega (arith, e .longEnough, joint-in laid (s .capacity) j m))
         (on-right x v (routeWrites L i r 0) (innerJoin L ws (s .capacity) i j r k cell ++ ((cell, toInner j) ∷ (1, word ws 1 + 1) ∷ []))
-        (on-left x v (innerJoin L ws (s .capacity) i j r k cell) ((cell, toInner j) ∷ (1, word ws 1 + 1) ∷ []) o (λ f. ⊎-elim (λ u. omega arith) (λ u. omega arith) cell-off, (λ f. omega (arith, laid .jointFirst (s .capacity) j), tt))))
+        (on-left x v (innerJoin L ws (s .capacity) i j r k cell) ((cell, toInner j) ∷ (1, word ws 1 + 1) ∷ []) o
+        (λ f. ⊎-elim (λ u. omega arith) (λ u. omega arith) cell-off, (λ f. omega (arith, laid .jointFirst (s .capacity) j), tt))))
 
     after-route : (x : ℕ) → L .seat i ≤ x → x < L .seat i + laid .seatWords → Off x (innerJoin L ws (s .capacity) i j r k cell ++ ((cell, toInner j) ∷ (1, word ws 1 + 1) ∷ []))
     after-route x a b =
         off-append x (innerJoin L ws (s .capacity) i j r k cell) ((cell, toInner j) ∷ (1, word ws 1 + 1) ∷ [])
-        (off-inner L laid x (s .capacity) j k (toward (bit (L .rules .width) k (r .prefix .address)) (toRoute i) (word ws cell)) (toward (bit (L .rules .width) k (r .prefix .address)) (word ws cell) (toRoute i)) (inl (omega (arith, laid .jointPast (s .capacity) i j l))))
+        (off-inner L laid x (s .capacity) j k (toward (bit (L .rules .width) k (r .prefix .address)) (toRoute i) (word ws cell))
+        (toward (bit (L .rules .width) k (r .prefix .address)) (word ws cell) (toRoute i)) (inl (omega (arith, laid .jointPast (s .capacity) i j l))))
         (λ f. clear .route i x l a b (λ g. no-next i l (sym g ∙ f)) f, (λ f. omega (arith, laid .seatPast i), tt))
 
     joined-holds : Holds L (s .capacity) (writes (joinWrites L ws (s .capacity) i j r k cell) ws) (word (writes (joinWrites L ws (s .capacity) i j r k cell) ws) 2)
@@ -173,9 +185,13 @@ module _ {P : Type 0} (L : Layout P) (laid : Laid L) where
         sides : leftAt L (s .capacity) (writes (joinWrites L ws (s .capacity) i j r k cell) ws) j ≡ toward (bit (L .rules .width) k (r .prefix .address)) (toRoute i) (word ws cell)
             → rightAt L (s .capacity) (writes (joinWrites L ws (s .capacity) i j r k cell) ws) j ≡ toward (bit (L .rules .width) k (r .prefix .address)) (word ws cell) (toRoute i)
             → toward (bit (L .rules .width) k (r .prefix .address))
-            ((leftAt L (s .capacity) (writes (joinWrites L ws (s .capacity) i j r k cell) ws) j ≡ toRoute i) × (rightAt L (s .capacity) (writes (joinWrites L ws (s .capacity) i j r k cell) ws) j ≡ word ws (cellOf L (s .capacity) (h .way))))
-            ((leftAt L (s .capacity) (writes (joinWrites L ws (s .capacity) i j r k cell) ws) j ≡ word ws (cellOf L (s .capacity) (h .way))) × (rightAt L (s .capacity) (writes (joinWrites L ws (s .capacity) i j r k cell) ws) j ≡ toRoute i))
-        sides x y = ⊎-elim (λ z. rw z (rw z at x, (rw z at y) ∙ ap (word ws) (sym (h .cellIs)))) (λ z. rw z ((rw z at x) ∙ ap (word ws) (sym (h .cellIs)), rw z at y)) (side (L .rules .width) k (r .prefix .address))
+            ((leftAt L (s .capacity) (writes (joinWrites L ws (s .capacity) i j r k cell) ws) j ≡ toRoute i) ×
+            (rightAt L (s .capacity) (writes (joinWrites L ws (s .capacity) i j r k cell) ws) j ≡ word ws (cellOf L (s .capacity) (h .way))))
+            ((leftAt L (s .capacity) (writes (joinWrites L ws (s .capacity) i j r k cell) ws) j ≡ word ws (cellOf L (s .capacity) (h .way))) ×
+            (rightAt L (s .capacity) (writes (joinWrites L ws (s .capacity) i j r k cell) ws) j ≡ toRoute i))
+        sides x y =
+            ⊎-elim (λ z. rw z (rw z at x, (rw z at y) ∙ ap (word ws) (sym (h .cellIs)))) (λ z. rw z ((rw z at x) ∙ ap (word ws) (sym (h .cellIs)), rw z at y))
+            (side (L .rules .width) k (r .prefix .address))
 
     bare-joined : bare (plug (h .way) (join (L .rules .width) j k (r .prefix .address) (entryAt L i r) (h .part))) ≡ putAt (L .rules .width) k j (r .prefix .address) (bareEntry (entryAt L i r)) (bare t)
     bare-joined =
@@ -186,7 +202,8 @@ module _ {P : Type 0} (L : Layout P) (laid : Laid L) where
         ∙ sym (put-plug (L .rules .width) k j a (bareEntry (entryAt L i r)) (bareWay w) (bare (h .part)) (bare-follows (L .rules .width) a w (h .follows)) (not-past-bare L k w (h .notPast)))
         ∙ ap (putAt (L .rules .width) k j a (bareEntry (entryAt L i r))) (sym (bare-plug w (h .part)) ∙ ap bare (h .whole))
 
-    used : (p : ℕ) → p < s .capacity → 1 ≤ kindAt L (writes (joinWrites L ws (s .capacity) i j r k cell) ws) p → Among p (routePlaces (plug (h .way) (join (L .rules .width) j k (r .prefix .address) (entryAt L i r) (h .part))))
+    used : (p : ℕ) → p < s .capacity → 1 ≤ kindAt L (writes (joinWrites L ws (s .capacity) i j r k cell) ws) p
+        → Among p (routePlaces (plug (h .way) (join (L .rules .width) j k (r .prefix .address) (entryAt L i r) (h .part))))
     used p n u = plug-routes (h .way) (join (L .rules .width) j k (r .prefix .address) (entryAt L i r) (h .part)) p (go (eq-or-ne p i))
       where
         go : (p ≡ i) ⊎ (p ≡ i → ⊥) → Among p (routePlaces (join (L .rules .width) j k (r .prefix .address) (entryAt L i r) (h .part))) ⊎ Among p (wayRoutes (h .way))
@@ -213,9 +230,12 @@ module _ {P : Type 0} (L : Layout P) (laid : Laid L) where
         let a = r .prefix .address in
         let be = bareEntry (entryAt L i r) in
         encodes-edit L ws zs s (insert r (s .routes)) (some (plug (h .way) (join (L .rules .width) j k a (entryAt L i r) (h .part)))) e few
-        (aside L laid ws (joinWrites L ws (s .capacity) i j r k cell) (s .capacity) (off 0 (inl (omega (arith, laid .seatPast i))) (inl (omega (arith, laid .jointFirst (s .capacity) j))) (λ f. clear .head .0 (sym f)) (omega arith))
-        (off 3 (inl (omega (arith, laid .seatPast i))) (inl (omega (arith, laid .jointFirst (s .capacity) j))) (λ f. clear .head .2 (sym f)) (omega arith)) (off 4 (inl (omega (arith, laid .seatPast i))) (inl (omega (arith, laid .jointFirst (s .capacity) j))) (λ f. clear .head .3 (sym f)) (omega arith))
-        (λ x n. off x (inr (omega (arith, laid .jointPast (s .capacity) i i l, laid .slotPast (s .capacity) i 0 l))) (inr (omega (arith, laid .slotPast (s .capacity) j 0 m))) (λ f. omega (arith, clear .below)) (omega (arith, laid .slotFirst (s .capacity) 0))))
+        (aside L laid ws (joinWrites L ws (s .capacity) i j r k cell) (s .capacity)
+        (off 0 (inl (omega (arith, laid .seatPast i))) (inl (omega (arith, laid .jointFirst (s .capacity) j))) (λ f. clear .head .0 (sym f)) (omega arith))
+        (off 3 (inl (omega (arith, laid .seatPast i))) (inl (omega (arith, laid .jointFirst (s .capacity) j))) (λ f. clear .head .2 (sym f)) (omega arith))
+        (off 4 (inl (omega (arith, laid .seatPast i))) (inl (omega (arith, laid .jointFirst (s .capacity) j))) (λ f. clear .head .3 (sym f)) (omega arith))
+        (λ x n. off x (inr (omega (arith, laid .jointPast (s .capacity) i i l, laid .slotPast (s .capacity) i 0 l))) (inr (omega (arith, laid .slotPast (s .capacity) j 0 m)))
+        (λ f. omega (arith, clear .below)) (omega (arith, laid .slotFirst (s .capacity) 0))))
         (word-on 1 (word ws 1 + 1) (joinWrites L ws (s .capacity) i j r k cell) ws (omega (arith, e .longEnough, head-in laid (s .capacity)))
         (on-right 1 (word ws 1 + 1) (routeWrites L i r 0) (innerJoin L ws (s .capacity) i j r k cell ++ ((cell, toInner j) ∷ (1, word ws 1 + 1) ∷ []))
         (on-right 1 (word ws 1 + 1) (innerJoin L ws (s .capacity) i j r k cell) ((cell, toInner j) ∷ (1, word ws 1 + 1) ∷ []) (inr (inl (refl, refl, tt)))))

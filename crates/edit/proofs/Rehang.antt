@@ -77,7 +77,9 @@ module _ {P : Type 0} (L : Layout P) (laid : Laid L) where
       where
         go : (endCell L (cellOf L c w) xs ≡ cellOf L c w) ⊎ ((q : ℕ) × Among q (chainPlaces xs) × (endCell L (cellOf L c w) xs ≡ L .seat q + L .nextOffset)) → ⊥
         go (inl f) = cell-range c w p l (sym f ∙ sym e)
-        go (inr v) = let same : p ≡ v .0 = one-seat L laid p (v .0) (L .nextOffset) (L .nextOffset) (laid .nextFits) (laid .nextFits) (e ∙ v .2) .0 in n (subst (λ (x : ℕ). Among x (chainPlaces xs)) (sym same) (v .1))
+        go (inr v) =
+            let same : p ≡ v .0 = one-seat L laid p (v .0) (L .nextOffset) (L .nextOffset) (laid .nextFits) (laid .nextFits) (e ∙ v .2) .0 in
+            n (subst (λ (x : ℕ). Among x (chainPlaces xs)) (sym same) (v .1))
 
     inner-but : (q : ℕ) → q < c → InnerBut L c ws zs (cellOf L c w) q
     inner-but q l = go (cell-cases (cellOf L c w) xs)
@@ -85,11 +87,17 @@ module _ {P : Type 0} (L : Layout P) (laid : Laid L) where
         b : InnerBut L c ws zs (endCell L (cellOf L c w) xs) q
         b = left .inners q l
 
-        go : (endCell L (cellOf L c w) xs ≡ cellOf L c w) ⊎ ((p : ℕ) × Among p (chainPlaces xs) × (endCell L (cellOf L c w) xs ≡ L .seat p + L .nextOffset)) → InnerBut L c ws zs (cellOf L c w) q
+        go : (endCell L (cellOf L c w) xs ≡ cellOf L c w) ⊎ ((p : ℕ) × Among p (chainPlaces xs) × (endCell L (cellOf L c w) xs ≡ L .seat p + L .nextOffset))
+            → InnerBut L c ws zs (cellOf L c w) q
         go (inl f) = subst (λ (x : ℕ). InnerBut L c ws zs x q) f b
         go (inr v) =
             let small = in-pool (v .0) (plug-routes w (leaf a (xs ++ (gone ++ rest))) (v .0) (inl (in-leaf (v .0) (inl (v .1))))) in
-            record { mark = b .mark; left = λ n. b .left (λ e. omega (arith, e, v .2, laid .jointPast c (v .0) q small, laid .nextFits)); right = λ n. b .right (λ e. omega (arith, e, v .2, laid .jointPast c (v .0) q small, laid .nextFits)) }
+            record {
+              mark = b .mark;
+              left = λ n. b .left (λ e. omega (arith, e, v .2, laid .jointPast c (v .0) q small, laid .nextFits));
+              right = λ n. b .right
+                  (λ e. omega (arith, e, v .2, laid .jointPast c (v .0) q small, laid .nextFits));
+            }
 
     root-but : (2 ≡ cellOf L c w → ⊥) → word ws 2 ≡ word zs 2
     root-but n = go (cell-cases (cellOf L c w) xs)
@@ -141,5 +149,6 @@ module _ {P : Type 0} (L : Layout P) (laid : Laid L) where
         route-whole L ws zs (endCell L (cellOf L c w) xs) p (off-cell p small (λ u. firstApart .apart p u (in-old p (inr k)))) (left .routes p small there (λ u. restApart .apart p u k))) h
 
     -- the changed leaf in its place
-    pub rehung-holds : (new : List (Entry (Seat P))) → (xs ++ new ≡ [] → ⊥) → Chain L c zs a (word zs (endCell L (cellOf L c w) xs)) new → Holds L c zs (word zs 2) (plug w (leaf a (xs ++ new)))
+    pub rehung-holds : (new : List (Entry (Seat P))) → (xs ++ new ≡ [] → ⊥) → Chain L c zs a (word zs (endCell L (cellOf L c w) xs)) new
+        → Holds L c zs (word zs 2) (plug w (leaf a (xs ++ new)))
     rehung-holds new n h = way-plug L c zs w (leaf a (xs ++ new)) rehung-way (chain-leaf c zs (word zs (cellOf L c w)) a (xs ++ new) n (chain-join L c zs a (cellOf L c w) xs new first-stays h))

@@ -114,7 +114,8 @@ module _ {P : Type 0} (L : Layout P) (laid : Laid L) where
       (laid .payloadPut (L .seat i) (r .payload) x (front o))
       (off-append x (prefixWrites L (L .seat i + L .prefixOffset) (r .prefix)) ((L .seat i + L .nextOffset, n) ∷ [])
       (off-append x (L .putAddress (L .seat i + L .prefixOffset) (r .prefix .address)) ((L .seat i + L .prefixOffset + L .addressWords, r .prefix .length) ∷ [])
-      (laid .addressPut (L .seat i + L .prefixOffset) (r .prefix .address) x (outside (L .prefixOffset) (L .addressWords) (omega (arith, prefix-fits laid)) o)) (λ f. away (L .prefixOffset + L .addressWords) (prefix-fits laid) o (omega arith), tt))
+      (laid .addressPut (L .seat i + L .prefixOffset) (r .prefix .address) x (outside (L .prefixOffset) (L .addressWords) (omega (arith, prefix-fits laid)) o))
+      (λ f. away (L .prefixOffset + L .addressWords) (prefix-fits laid) o (omega arith), tt))
       (λ f. away (L .nextOffset) (laid .nextFits) o f, tt))
     where
       front : OffSeat x i → Outside (laid .payloadWords) (L .seat i) x
@@ -136,7 +137,8 @@ module _ {P : Type 0} (L : Layout P) (laid : Laid L) where
   -- ---- what is spared
 
   module _ (ws : List ℕ) (xs : List Write) where
-    pub route-spared : (cell p : ℕ) → ((x : ℕ) → L .seat p ≤ x → x < L .seat p + L .nextOffset → Off x xs) → ((L .seat p + L .nextOffset ≡ cell → ⊥) → Off (L .seat p + L .nextOffset) xs) → RouteBut L ws (writes xs ws) cell p
+    pub route-spared : (cell p : ℕ) → ((x : ℕ) → L .seat p ≤ x → x < L .seat p + L .nextOffset → Off x xs)
+        → ((L .seat p + L .nextOffset ≡ cell → ⊥) → Off (L .seat p + L .nextOffset) xs) → RouteBut L ws (writes xs ws) cell p
     route-spared cell p f g = record {
       kind = word-off (L .seat p) xs ws (f (L .seat p) (omega arith) (omega (arith, laid .inSeat)));
       known = laid .knownRead ws (writes xs ws) (L .seat p) payload;
@@ -149,7 +151,8 @@ module _ {P : Type 0} (L : Layout P) (laid : Laid L) where
         payload : Agree (laid .payloadWords) ws (writes xs ws) (L .seat p)
         payload x a b = word-off x xs ws (f x a (omega (arith, laid .inSeat)))
 
-    pub inner-spared : (c cell q : ℕ) → Off (L .joint c q) xs → ((L .joint c q + 1 ≡ cell → ⊥) → Off (L .joint c q + 1) xs) → ((L .joint c q + 2 ≡ cell → ⊥) → Off (L .joint c q + 2) xs)
+    pub inner-spared : (c cell q : ℕ) → Off (L .joint c q) xs → ((L .joint c q + 1 ≡ cell → ⊥) → Off (L .joint c q + 1) xs)
+        → ((L .joint c q + 2 ≡ cell → ⊥) → Off (L .joint c q + 2) xs)
         → InnerBut L c ws (writes xs ws) cell q
     inner-spared c cell q m f g = record {
       mark = word-off (L .joint c q) xs ws m;

@@ -101,7 +101,9 @@ module _ {P : Type 0} (L : Layout P) (laid : Laid L) where
           used = known .0;
           known = known .1;
           heldThere = sym (laid .payloadRead one (writes tail two) (L .seat i) pay-agree) ∙ laid .payloadBack ws (L .seat i) (r .payload) (omega (arith, seat-in laid c i l, payload-fits laid));
-          addressThere = sym (laid .addressRead two (writes tail two) (L .seat i + L .prefixOffset) adr-agree) ∙ laid .addressBack one (L .seat i + L .prefixOffset) (r .prefix .address) (omega (arith, seat-in laid c i l, prefix-fits laid, long-one));
+          addressThere =
+              sym (laid .addressRead two (writes tail two) (L .seat i + L .prefixOffset) adr-agree)
+              ∙ laid .addressBack one (L .seat i + L .prefixOffset) (r .prefix .address) (omega (arith, seat-in laid c i l, prefix-fits laid, long-one));
           lengthThere = word-on (L .seat i + L .prefixOffset + L .addressWords) (r .prefix .length) tail two (omega (arith, seat-in laid c i l, prefix-fits laid, long-two))
               (inl (refl, refl, (λ e. omega (arith, laid .inSeat), off (L .seat i + L .prefixOffset + L .addressWords) (omega arith) (omega (arith, prefix-fits laid)))));
         })
@@ -110,7 +112,8 @@ module _ {P : Type 0} (L : Layout P) (laid : Laid L) where
     unfolding tail
     next-written =
         ap (λ (zs : List ℕ). word zs (L .seat i + L .nextOffset)) parts
-        ∙ word-on (L .seat i + L .nextOffset) n tail two (omega (arith, seat-in laid c i l, laid .nextFits, long-two)) (inr (inl (refl, refl, off (L .seat i + L .nextOffset) (omega arith) (omega (arith, laid .nextFits)))))
+        ∙ word-on (L .seat i + L .nextOffset) n tail two (omega (arith, seat-in laid c i l, laid .nextFits, long-two))
+        (inr (inl (refl, refl, off (L .seat i + L .nextOffset) (omega arith) (omega (arith, laid .nextFits)))))
 
   -- ---- the tree of a state that has routes
 

@@ -65,7 +65,8 @@ module _ {P : Type 0} (L : Layout P) where
 module _ {P : Type 0} (L : Layout P) (laid : Laid L) where
   -- ---- a route with others of its address
 
-  module _ (ws : List ℕ) (s : State P) (e : Encodes L ws s) (few : length (changes (s .trial)) ≤ L .rules .standing) (t : Seated P) (st : Stands L laid ws s t) (cell : ℕ) (p : Prefix) (x : Entry (Seat P))
+  module _ (ws : List ℕ) (s : State P) (e : Encodes L ws s) (few : length (changes (s .trial)) ≤ L .rules .standing) (t : Seated P) (st : Stands L laid ws s t) (cell : ℕ)
+      (p : Prefix) (x : Entry (Seat P))
       (h : HungAt L (s .capacity) p t cell x) where
     heldOld : Holds L (s .capacity) ws (word ws 2) (plug (h .way) (leaf (p .address) (h .longer ++ (x ∷ h .shorter))))
     heldOld = subst (Holds L (s .capacity) ws (word ws 2)) (sym (h .whole)) (st .held)
@@ -83,8 +84,11 @@ module _ {P : Type 0} (L : Layout P) (laid : Laid L) where
     hung : Chain L (s .capacity) ws (p .address) (word ws cell) (x ∷ h .shorter)
     hung =
         let from = cellOf L (s .capacity) (h .way) in
-        let chain = leaf-chain L (s .capacity) ws (word ws from) (p .address) (h .longer ++ (x ∷ h .shorter)) (plug-way L (s .capacity) ws (h .way) (leaf (p .address) (h .longer ++ (x ∷ h .shorter))) heldOld .1) in
-        subst (λ (y : ℕ). Chain L (s .capacity) ws (p .address) (word ws y) (x ∷ h .shorter)) (h .cellIs) (chain-split L (s .capacity) ws (p .address) from (h .longer) (x ∷ h .shorter) chain .1)
+        let chain =
+        leaf-chain L (s .capacity) ws (word ws from) (p .address) (h .longer ++ (x ∷ h .shorter))
+        (plug-way L (s .capacity) ws (h .way) (leaf (p .address) (h .longer ++ (x ∷ h .shorter))) heldOld .1) in
+        subst (λ (y : ℕ). Chain L (s .capacity) ws (p .address) (word ws y) (x ∷ h .shorter)) (h .cellIs)
+        (chain-split L (s .capacity) ws (p .address) from (h .longer) (x ∷ h .shorter) chain .1)
 
     small : x .payload .place < s .capacity
     small = hung .1 .inPool
@@ -98,19 +102,23 @@ module _ {P : Type 0} (L : Layout P) (laid : Laid L) where
         → 1 ≤ kindAt L (writes xs ws) y → Among y (chainPlaces (h .longer ++ h .shorter)) ⊎ Among y (wayRoutes (h .way))
     kept xs off y m n u =
         let was = st .routesUsed y m (subst (λ (z : ℕ). 1 ≤ z) (sym (route-touch L laid (s .capacity) ws (x .payload .place) cell xs small clear off y m n .kind)) u) in
-        ⊎-elim (λ k. inl (out k)) (λ k. inr k) (routes-plug (h .way) (leaf (p .address) (h .longer ++ (x ∷ h .shorter))) y (subst (λ (z : Seated P). Among y (routePlaces z)) (sym (h .whole)) was))
+        ⊎-elim (λ k. inl (out k)) (λ k. inr k)
+        (routes-plug (h .way) (leaf (p .address) (h .longer ++ (x ∷ h .shorter))) y (subst (λ (z : Seated P). Among y (routePlaces z)) (sym (h .whole)) was))
       where
         out : Among y (chainPlaces (h .longer ++ (x ∷ h .shorter))) → Among y (chainPlaces (h .longer ++ h .shorter))
         out k =
             subst (Among y) (sym (places-append (h .longer) (h .shorter)))
             (among-append y (chainPlaces (h .longer)) (chainPlaces (h .shorter))
-            (⊎-elim (λ a. inl a) (λ b. ⊎-elim (λ f. absurd (n f)) (λ z. inr z) b) (append-among y (chainPlaces (h .longer)) (chainPlaces (x ∷ h .shorter)) (subst (Among y) (places-append (h .longer) (x ∷ h .shorter)) k))))
+            (⊎-elim (λ a. inl a) (λ b. ⊎-elim (λ f. absurd (n f)) (λ z. inr z) b)
+            (append-among y (chainPlaces (h .longer)) (chainPlaces (x ∷ h .shorter)) (subst (Among y) (places-append (h .longer) (x ∷ h .shorter)) k))))
 
-    inner-kept : (xs : List Write) → ((y : ℕ) → OffSeat L laid y (x .payload .place) → (y ≡ cell → ⊥) → (y ≡ 1 → ⊥) → Off y xs) → (es : List (Entry (Seat P))) → (y : ℕ) → y < s .capacity
+    inner-kept : (xs : List Write) → ((y : ℕ) → OffSeat L laid y (x .payload .place) → (y ≡ cell → ⊥) → (y ≡ 1 → ⊥) → Off y xs) → (es : List (Entry (Seat P))) → (y : ℕ)
+        → y < s .capacity
         → 1 ≤ markAt L (s .capacity) (writes xs ws) y → Among y (innerPlaces (plug (h .way) (leaf (p .address) es)))
     inner-kept xs off es y m u =
         let was = st .innersUsed y m (subst (λ (z : ℕ). 1 ≤ z) (sym (inner-touch L laid (s .capacity) ws (x .payload .place) cell xs small clear off y m .mark)) u) in
-        plug-inners (h .way) (leaf (p .address) es) y (inners-plug (h .way) (leaf (p .address) (h .longer ++ (x ∷ h .shorter))) y (subst (λ (z : Seated P). Among y (innerPlaces z)) (sym (h .whole)) was))
+        plug-inners (h .way) (leaf (p .address) es) y
+        (inners-plug (h .way) (leaf (p .address) (h .longer ++ (x ∷ h .shorter))) y (subst (λ (z : Seated P). Among y (innerPlaces z)) (sym (h .whole)) was))
 
     -- ---- taken out
 
@@ -125,13 +133,18 @@ module _ {P : Type 0} (L : Layout P) (laid : Laid L) where
           (inl (refl, refl, (λ f. clear .route (x .payload .place) cell small (omega arith) (omega (arith, payload-fits laid)) (λ g. omega (arith, laid .inSeat)) refl, (clear .head .1, tt))))
 
       freed : kindAt L (writes (linkWrites L ws (x .payload .place) cell) ws) (x .payload .place) ≡ 0
-      freed = word-on (L .seat (x .payload .place)) 0 (linkWrites L ws (x .payload .place) cell) ws (omega (arith, e .longEnough, seat-in laid (s .capacity) (x .payload .place) small, payload-fits laid)) (inr (inl (refl, refl, (λ f. omega (arith, laid .seatPast (x .payload .place)), tt))))
+      freed =
+          word-on (L .seat (x .payload .place)) 0 (linkWrites L ws (x .payload .place) cell) ws
+          (omega (arith, e .longEnough, seat-in laid (s .capacity) (x .payload .place) small, payload-fits laid))
+          (inr (inl (refl, refl, (λ f. omega (arith, laid .seatPast (x .payload .place)), tt))))
 
       taken-holds : Holds L (s .capacity) (writes (linkWrites L ws (x .payload .place) cell) ws) (word (writes (linkWrites L ws (x .payload .place) cell) ws) 2) (plug (h .way) (leaf (p .address) (h .longer ++ h .shorter)))
       taken-holds =
           let zs = writes (linkWrites L ws (x .payload .place) cell) ws in
           let left = rehung (linkWrites L ws (x .payload .place) cell) off in
-          let rest = rest-stays L laid (s .capacity) ws zs (h .way) (p .address) (h .longer) (x ∷ []) (h .shorter) heldOld distinctRoutes distinctInners left (nextAt L ws (x .payload .place)) (hung .2) in
+          let rest =
+          rest-stays L laid (s .capacity) ws zs (h .way) (p .address) (h .longer) (x ∷ []) (h .shorter) heldOld distinctRoutes distinctInners left (nextAt L ws (x .payload .place))
+          (hung .2) in
           rehung-holds L laid (s .capacity) ws zs (h .way) (p .address) (h .longer) (x ∷ []) (h .shorter) heldOld distinctRoutes distinctInners left (h .shorter) more
           (subst (λ (y : ℕ). Chain L (s .capacity) zs (p .address) y (h .shorter)) (sym (ap (word zs) (h .cellIs) ∙ written)) rest)
 
@@ -174,12 +187,20 @@ module _ {P : Type 0} (L : Layout P) (laid : Laid L) where
             used = k .0;
             known = k .1;
             heldThere = laid .payloadBack ws (L .seat i) o fits;
-            addressThere = sym (laid .addressRead ws zs (L .seat i + L .prefixOffset) (λ y a b. word-off y (swapWrites L i o) ws (laid .payloadPut (L .seat i) o y (inr (omega (arith, laid .inSeat)))))) ∙ hung .1 .addressThere;
-            lengthThere = sym (word-off (L .seat i + L .prefixOffset + L .addressWords) (swapWrites L i o) ws (laid .payloadPut (L .seat i) o (L .seat i + L .prefixOffset + L .addressWords) (inr (omega (arith, laid .inSeat))))) ∙ hung .1 .lengthThere ∙ h .lengthIs;
+            addressThere =
+                sym
+                (laid .addressRead ws zs (L .seat i + L .prefixOffset) (λ y a b. word-off y (swapWrites L i o) ws (laid .payloadPut (L .seat i) o y (inr (omega (arith, laid .inSeat))))))
+                ∙ hung .1 .addressThere;
+            lengthThere =
+                sym
+                (word-off (L .seat i + L .prefixOffset + L .addressWords) (swapWrites L i o) ws
+                (laid .payloadPut (L .seat i) o (L .seat i + L .prefixOffset + L .addressWords) (inr (omega (arith, laid .inSeat)))))
+                ∙ hung .1 .lengthThere ∙ h .lengthIs;
           }
 
       -- the cell is in no payload
-      cell-outside : (cell < L .seat (x .payload .place)) ⊎ (L .seat (x .payload .place) ≤ cell) → (cell < L .seat (x .payload .place) + laid .payloadWords) ⊎ (L .seat (x .payload .place) + laid .payloadWords ≤ cell)
+      cell-outside : (cell < L .seat (x .payload .place)) ⊎ (L .seat (x .payload .place) ≤ cell)
+          → (cell < L .seat (x .payload .place) + laid .payloadWords) ⊎ (L .seat (x .payload .place) + laid .payloadWords ≤ cell)
           → Outside (laid .payloadWords) (L .seat (x .payload .place)) cell
       cell-outside (inl a) b = inl a
       cell-outside (inr a) (inl b) = absurd (clear .route (x .payload .place) cell small a (omega (arith, payload-fits laid)) (λ g. omega (arith, laid .inSeat)) refl)
@@ -238,5 +259,7 @@ module _ {P : Type 0} (L : Layout P) (laid : Laid L) where
               → Among z (chainPlaces (h .longer ++ (record { length = p .length; payload = record { place = x .payload .place; held = o } } ∷ h .shorter))) ⊎ Among z (wayRoutes (h .way))
           in-swapped z m u (inl f) = inl (into z (inr (inl f)))
           in-swapped z m u (inr n) =
-              ⊎-elim (λ k. inl (into z (⊎-elim (λ a. inl a) (λ b. inr (inr b)) (append-among z (chainPlaces (h .longer)) (chainPlaces (h .shorter)) (subst (Among z) (places-append (h .longer) (h .shorter)) k)))))
+              ⊎-elim
+              (λ k. inl (into z (⊎-elim (λ a. inl a) (λ b. inr (inr b))
+              (append-among z (chainPlaces (h .longer)) (chainPlaces (h .shorter)) (subst (Among z) (places-append (h .longer) (h .shorter)) k)))))
               (λ k. inr k) (kept (swapWrites L (x .payload .place) o) hop-off z m n u)

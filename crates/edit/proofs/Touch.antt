@@ -23,7 +23,8 @@ use Rattle.edit.proofs.Encodes.{Aside}
 
 module _ {P : Type 0} (L : Layout P) (laid : Laid L) where
   -- the cell after the first routes of a leaf that stands in the words
-  pub leaf-cell : (c : ℕ) (ws : List ℕ) (w : List (Step ℕ (Seat P))) (a : ℕ) (xs ys : List (Entry (Seat P))) → Holds L c ws (word ws 2) (plug w (leaf a (xs ++ ys))) → Clear L laid c (endCell L (cellOf L c w) xs)
+  pub leaf-cell : (c : ℕ) (ws : List ℕ) (w : List (Step ℕ (Seat P))) (a : ℕ) (xs ys : List (Entry (Seat P))) → Holds L c ws (word ws 2) (plug w (leaf a (xs ++ ys)))
+      → Clear L laid c (endCell L (cellOf L c w) xs)
   leaf-cell c ws w a xs ys h =
       cell-clear L laid c (endCell L (cellOf L c w) xs)
       (chain-cell L laid c (cellOf L c w) xs (way-cell L laid c ws w (plug-way L c ws w (leaf a (xs ++ ys)) h .0))
@@ -35,12 +36,14 @@ module _ {P : Type 0} (L : Layout P) (laid : Laid L) where
       (off : (x : ℕ) → OffSeat L laid x i → (x ≡ cell → ⊥) → (x ≡ 1 → ⊥) → Off x xs) where
     pub route-touch : (p : ℕ) → p < c → (p ≡ i → ⊥) → RouteBut L ws (writes xs ws) cell p
     route-touch p m n =
-        route-spared L laid ws xs cell p (λ x a b. off x (seats-apart L laid p i x n a (omega (arith, laid .nextFits))) (clear .route p x m a (omega (arith, laid .nextFits)) (omega arith)) (omega (arith, laid .seatPast p)))
+        route-spared L laid ws xs cell p
+        (λ x a b. off x (seats-apart L laid p i x n a (omega (arith, laid .nextFits))) (clear .route p x m a (omega (arith, laid .nextFits)) (omega arith)) (omega (arith, laid .seatPast p)))
         (λ k. off (L .seat p + L .nextOffset) (seats-apart L laid p i (L .seat p + L .nextOffset) n (omega arith) (omega (arith, laid .nextFits))) k (omega (arith, laid .seatPast p)))
 
     pub inner-touch : (q : ℕ) → q < c → InnerBut L c ws (writes xs ws) cell q
     inner-touch q m =
-        inner-spared L laid ws xs c cell q (off (L .joint c q) (inr (laid .jointPast c i q l)) (clear .mark q m) (omega (arith, laid .jointFirst c q))) (λ k. off (L .joint c q + 1) (inr (omega (arith, laid .jointPast c i q l))) k (omega (arith, laid .jointFirst c q)))
+        inner-spared L laid ws xs c cell q (off (L .joint c q) (inr (laid .jointPast c i q l)) (clear .mark q m) (omega (arith, laid .jointFirst c q)))
+        (λ k. off (L .joint c q + 1) (inr (omega (arith, laid .jointPast c i q l))) k (omega (arith, laid .jointFirst c q)))
         (λ k. off (L .joint c q + 2) (inr (omega (arith, laid .jointPast c i q l))) k (omega (arith, laid .jointFirst c q)))
 
     pub root-touch : (2 ≡ cell → ⊥) → word ws 2 ≡ word (writes xs ws) 2
@@ -48,11 +51,14 @@ module _ {P : Type 0} (L : Layout P) (laid : Laid L) where
 
     pub aside-touch : Aside L c ws (writes xs ws)
     aside-touch =
-        aside L laid ws xs c (off 0 (inl (omega (arith, laid .seatPast i))) (λ f. clear .head .0 (sym f)) (omega arith)) (off 3 (inl (omega (arith, laid .seatPast i))) (λ f. clear .head .2 (sym f)) (omega arith))
-        (off 4 (inl (omega (arith, laid .seatPast i))) (λ f. clear .head .3 (sym f)) (omega arith)) (λ x k. off x (inr (omega (arith, laid .jointPast c i i l, laid .slotPast c i 0 l))) (λ f. omega (arith, clear .below)) (omega (arith, laid .slotFirst c 0)))
+        aside L laid ws xs c (off 0 (inl (omega (arith, laid .seatPast i))) (λ f. clear .head .0 (sym f)) (omega arith))
+        (off 3 (inl (omega (arith, laid .seatPast i))) (λ f. clear .head .2 (sym f)) (omega arith))
+        (off 4 (inl (omega (arith, laid .seatPast i))) (λ f. clear .head .3 (sym f)) (omega arith))
+        (λ x k. off x (inr (omega (arith, laid .jointPast c i i l, laid .slotPast c i 0 l))) (λ f. omega (arith, clear .below)) (omega (arith, laid .slotFirst c 0)))
 
     pub rehung-touch : (w : List (Step ℕ (Seat P))) (a : ℕ) (ys gone rest : List (Entry (Seat P))) → endCell L (cellOf L c w) ys ≡ cell
-        → ((p : ℕ) → Among p (routePlaces (plug w (leaf a (ys ++ (gone ++ rest))))) → (Among p (chainPlaces gone) → ⊥) → p ≡ i → ⊥) → Rehung L laid c ws (writes xs ws) w a ys gone rest
+        → ((p : ℕ) → Among p (routePlaces (plug w (leaf a (ys ++ (gone ++ rest))))) → (Among p (chainPlaces gone) → ⊥) → p ≡ i → ⊥)
+        → Rehung L laid c ws (writes xs ws) w a ys gone rest
     rehung-touch w a ys gone rest e n = record {
       routes = λ p m k g. subst (λ (x : ℕ). RouteBut L ws (writes xs ws) x p) (sym e) (route-touch p m (n p k g));
       inners = λ q m. subst (λ (x : ℕ). InnerBut L c ws (writes xs ws) x q) (sym e) (inner-touch q m);

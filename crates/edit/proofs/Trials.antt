@@ -44,7 +44,9 @@ module _ {P : Type 0} (L : Layout P) (laid : Laid L) where
     capacityThere = sym (f 0 (omega (arith, laid .slotFirst (s .capacity) 0)) (omega arith) (omega arith)) ∙ e .capacityThere;
     countThere = sym (f 1 (omega (arith, laid .slotFirst (s .capacity) 0)) (omega arith) (omega arith)) ∙ e .countThere;
     trialThere = h;
-    holds = subst (λ (n : ℕ). HoldsRoot L (s .capacity) zs n (e .tree)) (f 2 (omega (arith, laid .slotFirst (s .capacity) 0)) (omega arith) (omega arith)) (root-frame L (s .capacity) ws zs (route-same (s .capacity) ws zs f) (inner-same (s .capacity) ws zs f) (word ws 2) (e .tree) (e .holds));
+    holds =
+        subst (λ (n : ℕ). HoldsRoot L (s .capacity) zs n (e .tree)) (f 2 (omega (arith, laid .slotFirst (s .capacity) 0)) (omega arith) (omega arith))
+        (root-frame L (s .capacity) ws zs (route-same (s .capacity) ws zs f) (inner-same (s .capacity) ws zs f) (word ws 2) (e .tree) (e .holds));
     good = e .good;
     routesThere = e .routesThere;
     routePlacesUsed = λ i m u. e .routePlacesUsed i m (subst (λ (n : ℕ). 1 ≤ n) (sym (route-same (s .capacity) ws zs f i m .kind)) u);
@@ -73,7 +75,8 @@ module _ {P : Type 0} (L : Layout P) (laid : Laid L) where
       encodes-trial ws (writes (headWrites 0 0) ws) s closed e (length-writes (headWrites 0 0) ws) (head-same (s .capacity) ws 0 0) (trial-written ws s e 0 0, standing-written ws s e 0 0)
 
   -- the newest change no longer stands
-  pub strike-encodes : (ws : List ℕ) (s : State P) (x : Change P) (cs : List (Change P)) (n : ℕ) → Encodes L ws s → s .trial ≡ opened (x ∷ cs) → word ws 4 ≡ suc n → suc n ≤ L .rules .standing
+  pub strike-encodes : (ws : List ℕ) (s : State P) (x : Change P) (cs : List (Change P)) (n : ℕ) → Encodes L ws s → s .trial ≡ opened (x ∷ cs) → word ws 4 ≡ suc n
+      → suc n ≤ L .rules .standing
       → Encodes L (writes ((4, n) ∷ []) ws) (withTrial s (s .routes) (opened cs))
   strike-encodes ws s x cs n e is st few =
       let zs = writes ((4, n) ∷ []) ws in
@@ -102,7 +105,8 @@ module _ {P : Type 0} (L : Layout P) (laid : Laid L) where
   pub says-changed : (p : Prefix) (old new : P) → Says 3 p old new (changed p old new)
   says-changed p old new = record { known = λ c ws k a b d e f g. (a, b, d, e, f, g) }
 
-  module _ (ws : List ℕ) (s : State P) (e : Encodes L ws s) (cs : List (Change P)) (is : s .trial ≡ opened cs) (few : length cs < L .rules .standing) (action : ℕ) (p : Prefix) (old new : P) (x : Change P) (says : Says action p old new x) where
+  module _ (ws : List ℕ) (s : State P) (e : Encodes L ws s) (cs : List (Change P)) (is : s .trial ≡ opened cs) (few : length cs < L .rules .standing) (action : ℕ) (p : Prefix)
+      (old new : P) (x : Change P) (says : Says action p old new x) where
     there : TrialThere L (s .capacity) ws (opened cs)
     there = subst (TrialThere L (s .capacity) ws) is (e .trialThere)
 
@@ -177,7 +181,9 @@ module _ {P : Type 0} (L : Layout P) (laid : Laid L) where
 
     address-back : L .addressAt (writes adr (set ws k action)) (k + 1) ≡ p .address
     unfolding k adr
-    address-back = laid .addressBack (set ws (L .slot (s .capacity) (word ws 4)) action) (L .slot (s .capacity) (word ws 4) + 1) (p .address) (omega (arith, inside .0, changed-fits laid, length-set ws (L .slot (s .capacity) (word ws 4)) action))
+    address-back =
+        laid .addressBack (set ws (L .slot (s .capacity) (word ws 4)) action) (L .slot (s .capacity) (word ws 4) + 1) (p .address)
+        (omega (arith, inside .0, changed-fits laid, length-set ws (L .slot (s .capacity) (word ws 4)) action))
 
     address-read : L .addressAt (writes ((k, action) ∷ ((adr ++ len) ++ (olds ++ (news ++ ends)))) ws) (k + 1) ≡ p .address
     address-read =
@@ -186,7 +192,9 @@ module _ {P : Type 0} (L : Layout P) (laid : Laid L) where
         let zs = len ++ (olds ++ (news ++ ends)) in
         let e = ap (λ (r : List Write). writes ((k, action) ∷ r) ws) (append-assoc adr len (olds ++ (news ++ ends))) ∙ writes-append adr zs one in
         ap (λ (w : List ℕ). L .addressAt w (k + 1)) e
-        ∙ sym (laid .addressRead two (writes zs two) (k + 1) (λ y a b. word-off y zs two (off-append y len (olds ++ (news ++ ends)) (len-off y (λ f. omega arith)) (rest-off y (omega arith) (omega (arith, laid .inSlot))))))
+        ∙ sym
+        (laid .addressRead two (writes zs two) (k + 1)
+        (λ y a b. word-off y zs two (off-append y len (olds ++ (news ++ ends)) (len-off y (λ f. omega arith)) (rest-off y (omega arith) (omega (arith, laid .inSlot))))))
         ∙ address-back
 
     length-read : word (writes ((k, action) ∷ ((adr ++ len) ++ (olds ++ (news ++ ends)))) ws) (k + 1 + L .addressWords) ≡ p .length
@@ -257,7 +265,8 @@ module _ {P : Type 0} (L : Layout P) (laid : Laid L) where
     unfolding ends
     row-off y n o = subst (Off y) (sym row) (
       λ f. out 0 (omega (arith, changed-fits laid)) o (f ∙ omega arith),
-      off-append y (adr ++ len) (olds ++ (news ++ ends)) (off-append y adr len (adr-off y (part 1 (L .addressWords) (omega (arith, changed-fits laid)) o)) (len-off y (λ f. out (1 + L .addressWords) (changed-fits laid) o (f ∙ omega arith))))
+      off-append y (adr ++ len) (olds ++ (news ++ ends))
+          (off-append y adr len (adr-off y (part 1 (L .addressWords) (omega (arith, changed-fits laid)) o)) (len-off y (λ f. out (1 + L .addressWords) (changed-fits laid) o (f ∙ omega arith))))
           (off-append y olds (news ++ ends) (olds-off y (part (L .oldOffset) (laid .payloadWords) (old-fits laid) o)) (off-append y news ends (news-off y (part (L .newOffset) (laid .payloadWords) (laid .newFits) o)) (n, tt))),
     )
       where
@@ -275,7 +284,8 @@ module _ {P : Type 0} (L : Layout P) (laid : Laid L) where
         let ys = recordWrites L (s .capacity) (word ws 4) action p old new in
         let zs = writes ys ws in
         let c = s .capacity in
-        let now : word zs 4 ≡ word ws 4 + 1 = ap (λ (r : List Write). word (writes r ws) 4) row ∙ word-on 4 (word ws 4 + 1) ((k, action) ∷ ((adr ++ len) ++ (olds ++ (news ++ ends)))) ws (omega (arith, e .longEnough, head-in laid c))
+        let now : word zs 4 ≡ word ws 4 + 1 = ap (λ (r : List Write). word (writes r ws) 4) row ∙ word-on 4 (word ws 4 + 1)
+        ((k, action) ∷ ((adr ++ len) ++ (olds ++ (news ++ ends)))) ws (omega (arith, e .longEnough, head-in laid c))
         (inr (on-right 4 (word ws 4 + 1) (adr ++ len) (olds ++ (news ++ ends)) (on-right 4 (word ws 4 + 1) olds (news ++ ends) (on-right 4 (word ws 4 + 1) news ends (inl (refl, refl, tt)))))) in
         encodes-trial ws zs s (opened (x ∷ cs)) e (length-writes ys ws) (λ y l a b. word-off y ys ws (row-off y b (inl (omega (arith, laid .slotFirst c (word ws 4)))))) (
           sym (word-off 3 ys ws (row-off 3 (omega arith) (inl (omega (arith, inside .1))))) ∙ there .0,

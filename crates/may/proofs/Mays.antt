@@ -39,7 +39,8 @@ module _ {P : Type 0} (T : Table P) where
   pub no-unsound : (call : Call P) (ws : List ℕ) → asks (T .rules) call ≡ true → TestedRight T ws verdict.NotSound → MayRight T call ws (No why.NotSound)
   no-unsound call ws a h = (λ m k. ap (number (T .rules) call) (meant-none T ws h m k) ∙ unsound-gives-9 (T .rules) call a, λ z. omega (arith, z))
 
-  no-sound : (call : Call P) (ws : List ℕ) (s : State P) (x : Refusal) → T .Means ws s → number (T .rules) call (some s) ≡ refusalNumber x → (refusalNumber x ≡ 0 → ⊥) → MayRight T call ws (No x)
+  no-sound : (call : Call P) (ws : List ℕ) (s : State P) (x : Refusal) → T .Means ws s → number (T .rules) call (some s) ≡ refusalNumber x → (refusalNumber x ≡ 0 → ⊥)
+      → MayRight T call ws (No x)
   no-sound call ws s x m e z = (λ y k. ap (number (T .rules) call) (meant-one T ws s m y k) ∙ e, z)
 
   -- ---- the lines of each call
@@ -51,19 +52,25 @@ module _ {P : Type 0} (T : Table P) where
     pub add-no-2 : (r : Route P) → wellFormed (T .rules .width) (r .prefix) ≡ true → T .rules .mayHold (r .prefix) ≡ false → MayRight T (add r) ws (No why.BadPrefix)
     add-no-2 r a b = no-sound (add r) ws s why.BadPrefix m (rw (a, b)) (λ z. omega (arith, z))
 
-    pub add-no-3 : (r : Route P) → wellFormed (T .rules .width) (r .prefix) ≡ true → T .rules .mayHold (r .prefix) ≡ true → T .rules .goodHop (r .prefix) (r .payload) ≡ false → MayRight T (add r) ws (No why.BadHop)
+    pub add-no-3 : (r : Route P) → wellFormed (T .rules .width) (r .prefix) ≡ true → T .rules .mayHold (r .prefix) ≡ true → T .rules .goodHop (r .prefix) (r .payload) ≡ false
+        → MayRight T (add r) ws (No why.BadHop)
     add-no-3 r a b d = no-sound (add r) ws s why.BadHop m (rw (a, b, d)) (λ z. omega (arith, z))
 
-    pub add-no-4 : (r : Route P) → wellFormed (T .rules .width) (r .prefix) ≡ true → T .rules .mayHold (r .prefix) ≡ true → T .rules .goodHop (r .prefix) (r .payload) ≡ true → Tells T ws (λ s. holds (r .prefix) (s .routes)) true → MayRight T (add r) ws (No why.AlreadyThere)
+    pub add-no-4 : (r : Route P) → wellFormed (T .rules .width) (r .prefix) ≡ true → T .rules .mayHold (r .prefix) ≡ true → T .rules .goodHop (r .prefix) (r .payload) ≡ true
+        → Tells T ws (λ s. holds (r .prefix) (s .routes)) true → MayRight T (add r) ws (No why.AlreadyThere)
     add-no-4 r a b d e = no-sound (add r) ws s why.AlreadyThere m (rw (a, b, d, sym (e s m))) (λ z. omega (arith, z))
 
-    pub add-no-5 : (r : Route P) → wellFormed (T .rules .width) (r .prefix) ≡ true → T .rules .mayHold (r .prefix) ≡ true → T .rules .goodHop (r .prefix) (r .payload) ≡ true → Tells T ws (λ s. holds (r .prefix) (s .routes)) false → Tells T ws (trialFull (T .rules)) true → MayRight T (add r) ws (No why.TrialFull)
+    pub add-no-5 : (r : Route P) → wellFormed (T .rules .width) (r .prefix) ≡ true → T .rules .mayHold (r .prefix) ≡ true → T .rules .goodHop (r .prefix) (r .payload) ≡ true
+        → Tells T ws (λ s. holds (r .prefix) (s .routes)) false → Tells T ws (trialFull (T .rules)) true → MayRight T (add r) ws (No why.TrialFull)
     add-no-5 r a b d e f = no-sound (add r) ws s why.TrialFull m (rw (a, b, d, sym (e s m), sym (f s m))) (λ z. omega (arith, z))
 
-    pub add-no-6 : (r : Route P) → wellFormed (T .rules .width) (r .prefix) ≡ true → T .rules .mayHold (r .prefix) ≡ true → T .rules .goodHop (r .prefix) (r .payload) ≡ true → Tells T ws (λ s. holds (r .prefix) (s .routes)) false → Tells T ws (trialFull (T .rules)) false → Tells T ws full true → MayRight T (add r) ws (No why.TableFull)
+    pub add-no-6 : (r : Route P) → wellFormed (T .rules .width) (r .prefix) ≡ true → T .rules .mayHold (r .prefix) ≡ true → T .rules .goodHop (r .prefix) (r .payload) ≡ true
+        → Tells T ws (λ s. holds (r .prefix) (s .routes)) false → Tells T ws (trialFull (T .rules)) false → Tells T ws full true → MayRight T (add r) ws (No why.TableFull)
     add-no-6 r a b d e f g = no-sound (add r) ws s why.TableFull m (rw (a, b, d, sym (e s m), sym (f s m), sym (g s m))) (λ z. omega (arith, z))
 
-    pub add-goes : (c : ℕ) (r : Route P) → s .capacity ≡ c → wellFormed (T .rules .width) (r .prefix) ≡ true → T .rules .mayHold (r .prefix) ≡ true → T .rules .goodHop (r .prefix) (r .payload) ≡ true → Tells T ws (λ s. holds (r .prefix) (s .routes)) false → Tells T ws (trialFull (T .rules)) false → Tells T ws full false → MayRight T (add r) ws (Go c)
+    pub add-goes : (c : ℕ) (r : Route P) → s .capacity ≡ c → wellFormed (T .rules .width) (r .prefix) ≡ true → T .rules .mayHold (r .prefix) ≡ true
+        → T .rules .goodHop (r .prefix) (r .payload) ≡ true → Tells T ws (λ s. holds (r .prefix) (s .routes)) false → Tells T ws (trialFull (T .rules)) false
+        → Tells T ws full false → MayRight T (add r) ws (Go c)
     add-goes c r k a b d e f g = (s, m, k, rw (a, b, d, sym (e s m), sym (f s m), sym (g s m)))
 
     pub delete-no-1 : (p : Prefix) → wellFormed (T .rules .width) p ≡ false → MayRight T (delete p) ws (No why.BadPrefix)
@@ -72,10 +79,12 @@ module _ {P : Type 0} (T : Table P) where
     pub delete-no-2 : (p : Prefix) → wellFormed (T .rules .width) p ≡ true → Tells T ws (λ s. holds p (s .routes)) false → MayRight T (delete p) ws (No why.NotThere)
     delete-no-2 p a b = no-sound (delete p) ws s why.NotThere m (rw (a, sym (b s m))) (λ z. omega (arith, z))
 
-    pub delete-no-3 : (p : Prefix) → wellFormed (T .rules .width) p ≡ true → Tells T ws (λ s. holds p (s .routes)) true → Tells T ws (trialFull (T .rules)) true → MayRight T (delete p) ws (No why.TrialFull)
+    pub delete-no-3 : (p : Prefix) → wellFormed (T .rules .width) p ≡ true → Tells T ws (λ s. holds p (s .routes)) true → Tells T ws (trialFull (T .rules)) true
+        → MayRight T (delete p) ws (No why.TrialFull)
     delete-no-3 p a b d = no-sound (delete p) ws s why.TrialFull m (rw (a, sym (b s m), sym (d s m))) (λ z. omega (arith, z))
 
-    pub delete-goes : (c : ℕ) (p : Prefix) → s .capacity ≡ c → wellFormed (T .rules .width) p ≡ true → Tells T ws (λ s. holds p (s .routes)) true → Tells T ws (trialFull (T .rules)) false → MayRight T (delete p) ws (Go c)
+    pub delete-goes : (c : ℕ) (p : Prefix) → s .capacity ≡ c → wellFormed (T .rules .width) p ≡ true → Tells T ws (λ s. holds p (s .routes)) true
+        → Tells T ws (trialFull (T .rules)) false → MayRight T (delete p) ws (Go c)
     delete-goes c p k a b d = (s, m, k, rw (a, sym (b s m), sym (d s m)))
 
     pub change-no-1 : (r : Route P) → wellFormed (T .rules .width) (r .prefix) ≡ false → MayRight T (change r) ws (No why.BadPrefix)
@@ -84,13 +93,16 @@ module _ {P : Type 0} (T : Table P) where
     pub change-no-2 : (r : Route P) → wellFormed (T .rules .width) (r .prefix) ≡ true → T .rules .goodHop (r .prefix) (r .payload) ≡ false → MayRight T (change r) ws (No why.BadHop)
     change-no-2 r a b = no-sound (change r) ws s why.BadHop m (rw (a, b)) (λ z. omega (arith, z))
 
-    pub change-no-3 : (r : Route P) → wellFormed (T .rules .width) (r .prefix) ≡ true → T .rules .goodHop (r .prefix) (r .payload) ≡ true → Tells T ws (λ s. holds (r .prefix) (s .routes)) false → MayRight T (change r) ws (No why.NotThere)
+    pub change-no-3 : (r : Route P) → wellFormed (T .rules .width) (r .prefix) ≡ true → T .rules .goodHop (r .prefix) (r .payload) ≡ true
+        → Tells T ws (λ s. holds (r .prefix) (s .routes)) false → MayRight T (change r) ws (No why.NotThere)
     change-no-3 r a b d = no-sound (change r) ws s why.NotThere m (rw (a, b, sym (d s m))) (λ z. omega (arith, z))
 
-    pub change-no-4 : (r : Route P) → wellFormed (T .rules .width) (r .prefix) ≡ true → T .rules .goodHop (r .prefix) (r .payload) ≡ true → Tells T ws (λ s. holds (r .prefix) (s .routes)) true → Tells T ws (trialFull (T .rules)) true → MayRight T (change r) ws (No why.TrialFull)
+    pub change-no-4 : (r : Route P) → wellFormed (T .rules .width) (r .prefix) ≡ true → T .rules .goodHop (r .prefix) (r .payload) ≡ true
+        → Tells T ws (λ s. holds (r .prefix) (s .routes)) true → Tells T ws (trialFull (T .rules)) true → MayRight T (change r) ws (No why.TrialFull)
     change-no-4 r a b d e = no-sound (change r) ws s why.TrialFull m (rw (a, b, sym (d s m), sym (e s m))) (λ z. omega (arith, z))
 
-    pub change-goes : (c : ℕ) (r : Route P) → s .capacity ≡ c → wellFormed (T .rules .width) (r .prefix) ≡ true → T .rules .goodHop (r .prefix) (r .payload) ≡ true → Tells T ws (λ s. holds (r .prefix) (s .routes)) true → Tells T ws (trialFull (T .rules)) false → MayRight T (change r) ws (Go c)
+    pub change-goes : (c : ℕ) (r : Route P) → s .capacity ≡ c → wellFormed (T .rules .width) (r .prefix) ≡ true → T .rules .goodHop (r .prefix) (r .payload) ≡ true
+        → Tells T ws (λ s. holds (r .prefix) (s .routes)) true → Tells T ws (trialFull (T .rules)) false → MayRight T (change r) ws (Go c)
     change-goes c r k a b d e = (s, m, k, rw (a, b, sym (d s m), sym (e s m)))
 
     pub open-no-1 : Tells T ws (λ s. isOpen (s .trial)) true → MayRight T openTrial ws (No why.TrialIsOpen)
@@ -148,7 +160,8 @@ module _ {P : Type 0} (L : Layout P) where
 
 module _ {P : Type 0} (L : Layout P) (laid : Laid L) where
   -- whether a prefix is held, from what the search finds in the pool's own words
-  pub tells-holds : (ws : List ℕ) (c n : ℕ) → (s : State P) × Means L ws s × (s .capacity ≡ c) → n ≡ size L c → (p : Prefix) (x : Spot) (b : Bool) → Finds L c (take n ws) p x → b ≡ isAt x → Tells (tree L) ws (λ s. holds p (s .routes)) b
+  pub tells-holds : (ws : List ℕ) (c n : ℕ) → (s : State P) × Means L ws s × (s .capacity ≡ c) → n ≡ size L c → (p : Prefix) (x : Spot) (b : Bool) → Finds L c (take n ws) p x
+      → b ≡ isAt x → Tells (tree L) ws (λ s. holds p (s .routes)) b
   tells-holds ws c n v e p x b f is s m =
       let o = sound-own L ws c v in
       let ci : s .capacity ≡ c = sym (m .capacityThere) ∙ o .2 in

@@ -188,7 +188,8 @@ module _ {P : Type 0} where
   remove-insert r [] e = rw (true-same (r .prefix) (r .prefix) refl)
   remove-insert r (x ∷ xs) e = let w = off-head (r .prefix) x xs e in go (before (r .prefix) (x .prefix)) refl (w .0) (remove-insert r xs (w .1))
     where
-      go : (b : Bool) → before (r .prefix) (x .prefix) ≡ b → same (r .prefix) (x .prefix) ≡ false → remove (r .prefix) (insert r xs) ≡ xs → remove (r .prefix) (insert r (x ∷ xs)) ≡ x ∷ xs
+      go : (b : Bool) → before (r .prefix) (x .prefix) ≡ b → same (r .prefix) (x .prefix) ≡ false → remove (r .prefix) (insert r xs) ≡ xs
+          → remove (r .prefix) (insert r (x ∷ xs)) ≡ x ∷ xs
       go true t f ih = rw t (rw (true-same (r .prefix) (r .prefix) refl))
       go false t f ih = rw t (rw f (ap (λ (l : List (Route P)). x ∷ l) ih))
 

@@ -165,8 +165,10 @@ module _ {P : Type 0} (R : Rules P) where
       subst (λ (x : State P). Agrees x (noted t d)) (sym same) (change-agrees s t d (h .change) a (h .recorded))
 
   -- an accepted call, call by call
-  heard-agrees : (c : Call P) (s z : State P) (t : Told P) → Lawful R s → Agrees s t → accepted R c (some s) ≡ true → next R c (some s) ≡ some z → done c (some s) ≡ some z → Agrees z (heard c t)
-  heard-agrees (fresh c n) s z t w a k e f = let g : z ≡ empty c = cc in subst (λ (x : State P). Agrees x (heard (fresh c n) t)) (sym g) (record { capacity = refl; made = refl; trial = (refl, refl) })
+  heard-agrees : (c : Call P) (s z : State P) (t : Told P) → Lawful R s → Agrees s t → accepted R c (some s) ≡ true → next R c (some s) ≡ some z → done c (some s) ≡ some z
+      → Agrees z (heard c t)
+  heard-agrees (fresh c n) s z t w a k e f =
+      let g : z ≡ empty c = cc in subst (λ (x : State P). Agrees x (heard (fresh c n) t)) (sym g) (record { capacity = refl; made = refl; trial = (refl, refl) })
   heard-agrees (add r) s z t w a k e f = told-change s t (add r) (put r) a (changed-add r s w k) z e
   heard-agrees (delete p) s z t w a k e f = told-change s t (delete p) (drop p) a (changed-delete p s w k) z e
   heard-agrees (change r) s z t w a k e f = told-change s t (change r) (swap r) a (changed-change r s w k) z e

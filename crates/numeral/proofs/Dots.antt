@@ -93,7 +93,8 @@ module _ (s : List ℕ) (from : ℕ) where
       record { inside = omega (arith, e, p .inside, length-drop from s); value = p .value; front = p .front; behind = rw (e, sym past-dot) (p .behind) }
 
   -- the last one reaches to the end
-  pub last-there : {before whole : ℕ} (dot : ℕ) → dot ≡ dotFrom s from → from ≤ length s → Dotted 0 before (drop from s) whole → (dot ≡ length s) × ((n : ℕ) × Octet (upToDot s from) n)
+  pub last-there : {before whole : ℕ} (dot : ℕ) → dot ≡ dotFrom s from → from ≤ length s → Dotted 0 before (drop from s) whole
+      → (dot ≡ length s) × ((n : ℕ) × Octet (upToDot s from) n)
   last-there dot e h d = let p = end-of d in (omega (arith, e, h, p .0, length-drop from s), p .1)
 
   -- ---- put together

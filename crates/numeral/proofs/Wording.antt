@@ -74,12 +74,14 @@ some-given (suc n) read number.Number.Bad bad end z e = rw e
 some-given (suc n) read (number.Number.Value v) bad end z e = rw e
 
 module _ (Read : List ℕ → number.Number → Type 0) (bad : fault.Fault) (line : List ℕ) (from : ℕ) where
-  as-given : (n : ℕ) (read : number.Number) (end : ℕ) → length (wordAt line from) ≡ n → Read (wordAt line from) read → Behind line from end → TakenAs Read bad line from (givenOf n read bad end)
+  as-given : (n : ℕ) (read : number.Number) (end : ℕ) → length (wordAt line from) ≡ n → Read (wordAt line from) read → Behind line from end
+      → TakenAs Read bad line from (givenOf n read bad end)
   as-given zero read end e h b = inl (e, refl)
   as-given (suc n) (number.Number.Value v) end e h b = (h, b)
   as-given (suc n) number.Number.Bad end e h b = inr (omega (arith, e), h, refl)
 
-  pub taken-as : (word : List ℕ) (read : number.Number) (end : ℕ) (r : taken.Taken) → word ≡ wordAt line from → Read word read → Behind line from end → r ≡ givenOf (length word) read bad end → TakenAs Read bad line from r
+  pub taken-as : (word : List ℕ) (read : number.Number) (end : ℕ) (r : taken.Taken) → word ≡ wordAt line from → Read word read → Behind line from end
+      → r ≡ givenOf (length word) read bad end → TakenAs Read bad line from r
   taken-as word read end r e h b f =
       subst (TakenAs Read bad line from) (sym (f ∙ ap (λ (w : List ℕ). givenOf (length w) read bad end) e))
       (as-given (length (wordAt line from)) read end refl (subst (λ (w : List ℕ). Read w read) e h) b)

@@ -66,7 +66,8 @@ module _ {P : Type 0} (L : Layout P) (c : ℕ) (ws : List ℕ) where
   -- ---- inner places
 
   -- at an inner place of a tree stands a part of it
-  part-at : (link : ℕ) (t : Seated P) → Holds L c ws link t → (i : ℕ) → Among i (innerPlaces t) → (s : Seated P) × Holds L c ws (toInner i) s × ((x : ℕ) → Under x (bare s) → Under x (bare t))
+  part-at : (link : ℕ) (t : Seated P) → Holds L c ws link t → (i : ℕ) → Among i (innerPlaces t)
+      → (s : Seated P) × Holds L c ws (toInner i) s × ((x : ℕ) → Under x (bare s) → Under x (bare t))
   part-at link (leaf a es) h i k = absurd k
   part-at link (node j b l r) h i (inl e) = (node j b l r, subst (λ (n : ℕ). Holds L c ws n (node j b l r)) (h .0 ∙ ap toInner (sym e)) h, λ x u. u)
   part-at link (node j b l r) h i (inr k) = go (append-among i (innerPlaces l) (innerPlaces r) k) (part-at (leftAt L c ws j) l (h .3) i) (part-at (rightAt L c ws j) r (h .4) i)
@@ -82,9 +83,12 @@ module _ {P : Type 0} (L : Layout P) (c : ℕ) (ws : List ℕ) where
   marks-past : (link d : ℕ) (t : Seated P) → Holds L c ws link t → Good (L .rules .width) (bare t) → Grows d (bare t) → (i : ℕ) → Among i (innerPlaces t) → suc d < markAt L c ws i
   marks-past link d (leaf a es) h g p i k = absurd k
   marks-past link d (node j b l r) h g p i (inl e) = subst (λ (n : ℕ). suc d < markAt L c ws n) (sym e) (omega (arith, h .2, p))
-  marks-past link d (node j b l r) h g p i (inr k) = go (append-among i (innerPlaces l) (innerPlaces r) k) (marks-past (leftAt L c ws j) b l (h .3) (g .1) (g .0 .growsLeft) i) (marks-past (rightAt L c ws j) b r (h .4) (g .2) (g .0 .growsRight) i)
+  marks-past link d (node j b l r) h g p i (inr k) =
+      go (append-among i (innerPlaces l) (innerPlaces r) k) (marks-past (leftAt L c ws j) b l (h .3) (g .1) (g .0 .growsLeft) i)
+      (marks-past (rightAt L c ws j) b r (h .4) (g .2) (g .0 .growsRight) i)
     where
-      go : Among i (innerPlaces l) ⊎ Among i (innerPlaces r) → (Among i (innerPlaces l) → suc b < markAt L c ws i) → (Among i (innerPlaces r) → suc b < markAt L c ws i) → suc d < markAt L c ws i
+      go : Among i (innerPlaces l) ⊎ Among i (innerPlaces r) → (Among i (innerPlaces l) → suc b < markAt L c ws i) → (Among i (innerPlaces r) → suc b < markAt L c ws i)
+          → suc d < markAt L c ws i
       go (inl a) f q = let w = f a in omega arith
       go (inr a) f q = let w = q a in omega arith
 

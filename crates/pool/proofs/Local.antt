@@ -49,7 +49,8 @@ module _ {P : Type 0} (L : Layout P) where
     recorded-length (suc n) (x ∷ xs) h = ap suc (recorded-length n xs (h .1))
 
     -- where all places agree, the tree stands on
-    pub root-frame : ((i : ℕ) → i < c → RouteSame L ws zs i) → ((j : ℕ) → j < c → InnerSame L c ws zs j) → (link : ℕ) (t : Root ℕ (Seat P)) → HoldsRoot L c ws link t → HoldsRoot L c zs link t
+    pub root-frame : ((i : ℕ) → i < c → RouteSame L ws zs i) → ((j : ℕ) → j < c → InnerSame L c ws zs j) → (link : ℕ) (t : Root ℕ (Seat P)) → HoldsRoot L c ws link t
+        → HoldsRoot L c zs link t
     root-frame f g link none h = h
     root-frame f g link (some t) h = holds-frame L c ws zs link t (λ i k. f i (routes-in-pool L c ws zs link t h i k)) (λ j k. g j (inners-in-pool L c ws zs link t h j k)) h
 

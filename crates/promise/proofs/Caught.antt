@@ -45,7 +45,8 @@ module _ {P : Type 0} (T : Table P) (ws : List ℕ) (s : State P) (h : T .Means 
           omega (arith, ap (λ (u : Trial P). length (changes u)) f)
 
   -- "a back out that empties the table", where a route stood before the trial
-  pub emptying-back-out-caught : (zs : List ℕ) (t : State P) → T .Means zs t → (undoAll (changes (s .trial)) (s .routes) ≡ [] → ⊥) → Promise T backOut ws zs 0 v → t .routes ≡ [] → ⊥
+  pub emptying-back-out-caught : (zs : List ℕ) (t : State P) → T .Means zs t → (undoAll (changes (s .trial)) (s .routes) ≡ [] → ⊥) → Promise T backOut ws zs 0 v → t .routes ≡ []
+      → ⊥
   emptying-back-out-caught zs t k some-left p e = some-left (sym (sound-back-out T ws s h zs v t k p .0) ∙ e)
 
   -- "a first step back that takes back all", where two changes stand

@@ -39,8 +39,10 @@ module _ {P : Type 0} (T : Table P) where
   -- ---- promises
 
   -- from the one meaning that the words have
-  pub promise-of : (c : Call P) (ws zs : List ℕ) (n : ℕ) (v : Value P) (m : Meaning P) → ((x : Meaning P) → Meant T ws x → x ≡ m) → n ≡ number (T .rules) c m → v ≡ value (T .rules) c m
-      → Meant T zs (next (T .rules) c m) → ((n ≡ 0 → ⊥) → zs ≡ ws) → length zs ≡ length ws → ((i : ℕ) → T .rules .words (capacityIn ws) ≤ i → word zs i ≡ word ws i) → Promise T c ws zs n v
+  pub promise-of : (c : Call P) (ws zs : List ℕ) (n : ℕ) (v : Value P) (m : Meaning P) → ((x : Meaning P) → Meant T ws x → x ≡ m) → n ≡ number (T .rules) c m
+      → v ≡ value (T .rules) c m
+      → Meant T zs (next (T .rules) c m) → ((n ≡ 0 → ⊥) → zs ≡ ws) → length zs ≡ length ws → ((i : ℕ) → T .rules .words (capacityIn ws) ≤ i → word zs i ≡ word ws i)
+      → Promise T c ws zs n v
   promise-of c ws zs n v m one a b d e f g = record {
     numberIs = λ x h. a ∙ ap (number (T .rules) c) (sym (one x h));
     valueIs = λ x h. b ∙ ap (value (T .rules) c) (sym (one x h));
@@ -51,7 +53,8 @@ module _ {P : Type 0} (T : Table P) where
   }
 
   -- a refusal, whatever the reason
-  pub refuses : (c : Call P) (ws : List ℕ) (n : ℕ) (m : Meaning P) → Meant T ws m → ((x : Meaning P) → Meant T ws x → x ≡ m) → number (T .rules) c m ≡ n → (n ≡ 0 → ⊥) → Promise T c ws ws n nothing
+  pub refuses : (c : Call P) (ws : List ℕ) (n : ℕ) (m : Meaning P) → Meant T ws m → ((x : Meaning P) → Meant T ws x → x ≡ m) → number (T .rules) c m ≡ n → (n ≡ 0 → ⊥)
+      → Promise T c ws ws n nothing
   refuses c ws n m h one e z =
       promise-of c ws ws n nothing m one (sym e) (sym (refused-value c m n e z)) (subst (Meant T ws) (sym (refused-next c m n e z)) h) (λ k. refl) refl (λ i k. refl)
 
@@ -67,5 +70,6 @@ module _ {P : Type 0} (T : Table P) where
   refuses-sound c ws n s h e z = refuses c ws n (some s) h (meant-one ws s h) e z
 
   -- an answer of a sound pool that stays as it is
-  pub answers : (c : Call P) (ws : List ℕ) (v : Value P) (s : State P) → T .Means ws s → number (T .rules) c (some s) ≡ 0 → value (T .rules) c (some s) ≡ v → next (T .rules) c (some s) ≡ some s → Promise T c ws ws 0 v
+  pub answers : (c : Call P) (ws : List ℕ) (v : Value P) (s : State P) → T .Means ws s → number (T .rules) c (some s) ≡ 0 → value (T .rules) c (some s) ≡ v
+      → next (T .rules) c (some s) ≡ some s → Promise T c ws ws 0 v
   answers c ws v s h e f g = promise-of c ws ws 0 v (some s) (meant-one ws s h) (sym e) (sym f) (subst (Meant T ws) (sym g) h) (λ k. refl) refl (λ i k. refl)

@@ -25,7 +25,8 @@ module _ {P : Type 0} (T : Table P) where
     pub ran : history.Ran (T .rules) xs meaning
 
   -- one call more
-  on : (xs : List (Call P × ℕ)) (ws : List ℕ) (b : Behind xs ws) (c : Call P) (zs : List ℕ) (n : ℕ) → n ≡ number (T .rules) c (b .meaning) → Meant T zs (next (T .rules) c (b .meaning)) → Behind ((c, n) ∷ xs) zs
+  on : (xs : List (Call P × ℕ)) (ws : List ℕ) (b : Behind xs ws) (c : Call P) (zs : List ℕ) (n : ℕ) → n ≡ number (T .rules) c (b .meaning)
+      → Meant T zs (next (T .rules) c (b .meaning)) → Behind ((c, n) ∷ xs) zs
   on xs ws b c zs n e h = record {
     meaning = next (T .rules) c (b .meaning);
     meant = h;

@@ -61,7 +61,8 @@ module _ {P : Type 0} (L : Layout P) (laid : Laid L) (ws : List ℕ) (c n : ℕ)
   says-of k v x f h s m =
       let p = own-means s m in
       subst (λ (l : List (Route P)). Says k v x (f l)) (p .routesThere)
-      (h (p .tree) (subst (λ (y : ℕ). HoldsRoot L y (take n ws) (rootIn (take n ws)) (p .tree)) (sym (m .capacityThere) ∙ o .2) (p .holds)) (root-obeys-good (L .rules .width) (bareRoot (p .tree)) (p .obeys)))
+      (h (p .tree) (subst (λ (y : ℕ). HoldsRoot L y (take n ws) (rootIn (take n ws)) (p .tree)) (sym (m .capacityThere) ∙ o .2) (p .holds))
+      (root-obeys-good (L .rules .width) (bareRoot (p .tree)) (p .obeys)))
 
   pub lookup-answer : (d k : ℕ) (v : Value P) → Looks L c (take n ws) d k v → LookupPromise (tree L) d ws k v
   lookup-answer d k v h =
@@ -80,9 +81,11 @@ module _ {P : Type 0} (L : Layout P) (laid : Laid L) (ws : List ℕ) (c n : ℕ)
 
   pub first-answer : (k : ℕ) (v : Value P) (s : State P) → Means L ws s → Firsts L c (take n ws) k v → Promise (tree L) first ws ws k v
   first-answer k v s m h =
-      walked first k v (firstOf (s .routes)) s m (says-of k v 14 firstOf (h .exact) s m) refl (shown-found 14 (firstOf (s .routes)) (λ z. omega arith)) (kept (accepted (L .rules) first (some s)) (some s))
+      walked first k v (firstOf (s .routes)) s m (says-of k v 14 firstOf (h .exact) s m) refl (shown-found 14 (firstOf (s .routes)) (λ z. omega arith))
+      (kept (accepted (L .rules) first (some s)) (some s))
 
-  pub next-answer : (p : Prefix) (k : ℕ) (v : Value P) (s : State P) → Means L ws s → wellFormed (L .rules .width) p ≡ true → Nexts L c (take n ws) p k v → Promise (tree L) (after p) ws ws k v
+  pub next-answer : (p : Prefix) (k : ℕ) (v : Value P) (s : State P) → Means L ws s → wellFormed (L .rules .width) p ≡ true → Nexts L c (take n ws) p k v
+      → Promise (tree L) (after p) ws ws k v
   next-answer p k v s m t h =
       walked (after p) k v (nextAfter p (s .routes)) s m (says-of k v 14 (nextAfter p) (h .exact) s m) (rw t) (rw t (shown-found 14 (nextAfter p (s .routes)) (λ z. omega arith)))
       (kept (accepted (L .rules) (after p) (some s)) (some s))

@@ -35,14 +35,16 @@ module _ {P : Type 0} (T : Table P) where
     pub meant : Meant T ws m
 
   -- one call more
-  follow : {xs : List (Call P × ℕ)} {m : Meaning P} {ws : List ℕ} → Known xs m ws → {c : Call P} {zs : List ℕ} {n : ℕ} {v : Value P} → Promise T c ws zs n v → (k : ℕ) → number (T .rules) c m ≡ k
+  follow : {xs : List (Call P × ℕ)} {m : Meaning P} {ws : List ℕ} → Known xs m ws → {c : Call P} {zs : List ℕ} {n : ℕ} {v : Value P} → Promise T c ws zs n v → (k : ℕ)
+      → number (T .rules) c m ≡ k
       → Known ((c, k) ∷ xs) (next (T .rules) c m) zs
   follow {xs = xs} {m = m} h {c = c} {zs = zs} {n = n} {v = v} p k e = record {
     ran = subst (λ (x : ℕ). Ran T ((c, x) ∷ xs) zs) (p .numberIs m (h .meant) ∙ e) (called (h .ran) c zs n v p);
     meant = p .meaningIs m (h .meant);
   }
 
-  follow-lookup : {xs : List (Call P × ℕ)} {s : State P} {ws : List ℕ} → Known xs (some s) ws → {d n : ℕ} {v : Value P} → LookupPromise T d ws n v → (k : ℕ) → number (T .rules) (lookup d) (some s) ≡ k
+  follow-lookup : {xs : List (Call P × ℕ)} {s : State P} {ws : List ℕ} → Known xs (some s) ws → {d n : ℕ} {v : Value P} → LookupPromise T d ws n v → (k : ℕ)
+      → number (T .rules) (lookup d) (some s) ≡ k
       → Known ((lookup d, k) ∷ xs) (some s) ws
   follow-lookup {xs = xs} {s = s} {ws = ws} h {d = d} {n = n} {v = v} p k e = record {
     ran = subst (λ (x : ℕ). Ran T ((lookup d, x) ∷ xs) ws) (p .numberIs s (h .meant) ∙ e) (looked (h .ran) d n v p);

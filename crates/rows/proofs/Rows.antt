@@ -19,7 +19,8 @@ pub two-more : (ws xs : List ℕ) (row : List Write) (i v j u : ℕ) → xs ≡ 
 two-more ws xs row i v j u e = rw e
 
 module _ {P : Type 0} (L : Layout P) where
-  pub route-row : (ws xs ys : List ℕ) (i at : ℕ) (h : P) (p : Prefix) (next : ℕ) → at ≡ L .seat i → xs ≡ writes (L .putPayload at h) ws → ys ≡ writes (prefixWrites L (at + L .prefixOffset) p) xs
+  pub route-row : (ws xs ys : List ℕ) (i at : ℕ) (h : P) (p : Prefix) (next : ℕ) → at ≡ L .seat i → xs ≡ writes (L .putPayload at h) ws
+      → ys ≡ writes (prefixWrites L (at + L .prefixOffset) p) xs
       → set ys (at + L .nextOffset) next ≡ writes (routeWrites L i (record { prefix = p; payload = h }) next) ws
   route-row ws xs ys i at h p next e f g =
       rw (g, f, e) (sym (
@@ -28,8 +29,10 @@ module _ {P : Type 0} (L : Layout P) where
       ))
 
   -- a new address: its leaf, its inner place, the cell and the count
-  pub join-row : (ws xs ys : List ℕ) (c i j k cell : ℕ) (r : Route P) (link left right up : ℕ) → link ≡ toRoute i → (left ≡ toward (bit (L .rules .width) k (r .prefix .address)) link (word ws cell))
-      → (right ≡ toward (bit (L .rules .width) k (r .prefix .address)) (word ws cell) link) → up ≡ toInner j → xs ≡ writes (routeWrites L i r 0) ws → ys ≡ writes (innerWrites L c j k left right) xs
+  pub join-row : (ws xs ys : List ℕ) (c i j k cell : ℕ) (r : Route P) (link left right up : ℕ) → link ≡ toRoute i
+      → (left ≡ toward (bit (L .rules .width) k (r .prefix .address)) link (word ws cell))
+      → (right ≡ toward (bit (L .rules .width) k (r .prefix .address)) (word ws cell) link) → up ≡ toInner j → xs ≡ writes (routeWrites L i r 0) ws
+      → ys ≡ writes (innerWrites L c j k left right) xs
       → set (set ys cell up) 1 (word ws 1 + 1) ≡ writes (joinWrites L ws c i j r k cell) ws
   join-row ws xs ys c i j k cell r link left right up a b d e f g =
       rw (g, f, b, d, a, e) (sym (writes-append (routeWrites L i r 0) (innerJoin L ws c i j r k cell ++ ((cell, toInner j) ∷ (1, word ws 1 + 1) ∷ [])) ws))

@@ -54,10 +54,12 @@ module _ {P : Type 0} (L : Layout P) where
         let o = subst (ChangeObeys (L .rules)) (change-is 2 e) (f .obeys) in
         record { kind = r .2; good = o .2 }
 
-    pub change-fine : actionAt L c ws k ≡ 3 → Obeyed → PayloadFine L ws (changedAt L c ws k) (L .slot c k + L .oldOffset) → PayloadFine L ws (changedAt L c ws k) (L .slot c k + L .newOffset) → ChangeFine L c ws k
+    pub change-fine : actionAt L c ws k ≡ 3 → Obeyed → PayloadFine L ws (changedAt L c ws k) (L .slot c k + L .oldOffset)
+        → PayloadFine L ws (changedAt L c ws k) (L .slot c k + L .newOffset) → ChangeFine L c ws k
     change-fine e p h g = fine-as _ (change-is 3 e) (e, refl, h .kind, refl, g .kind, refl) ((p .0, p .1, h .good), (p .0, p .1, g .good))
 
-    pub fine-change : actionAt L c ws k ≡ 3 → ChangeFine L c ws k → PayloadFine L ws (changedAt L c ws k) (L .slot c k + L .oldOffset) × PayloadFine L ws (changedAt L c ws k) (L .slot c k + L .newOffset)
+    pub fine-change : actionAt L c ws k ≡ 3 → ChangeFine L c ws k
+        → PayloadFine L ws (changedAt L c ws k) (L .slot c k + L .oldOffset) × PayloadFine L ws (changedAt L c ws k) (L .slot c k + L .newOffset)
     fine-change e f =
         let r = subst (Records L c ws k) (change-is 3 e) (f .recorded) in
         let o = subst (ChangeObeys (L .rules)) (change-is 3 e) (f .obeys) in

@@ -74,7 +74,8 @@ module _ {P : Type 0} (L : Layout P) (c : ℕ) (ws : List ℕ) where
   -- what the search says of the table
   pub table-holds : (p : Prefix) (r : Spot) → Finds L c ws p r → (l : List (Route P)) → Tabled L c ws l → isAt r ≡ holds p l
   table-holds p r f l t =
-      spotted-present L ws (routesUsed (t .tree)) r (find p (rootRoutes (bareRoot (t .tree)))) (root-spotted L c ws p r f (t .tree) (t .holds) (root-obeys-good (L .rules .width) (bareRoot (t .tree)) (t .form)))
+      spotted-present L ws (routesUsed (t .tree)) r (find p (rootRoutes (bareRoot (t .tree))))
+      (root-spotted L c ws p r f (t .tree) (t .holds) (root-obeys-good (L .rules .width) (bareRoot (t .tree)) (t .form)))
       ∙ ap (holds p) (t .there)
 
   -- ---- along the newer changes
@@ -116,7 +117,9 @@ module _ {P : Type 0} (L : Layout P) (c : ℕ) (ws : List ℕ) where
         let e' = subst (λ (d : ℕ). holds (changedAt L c ws k) (atTurn L c ws n k l) ≡ holds (changedAt L c ws k) (back L c ws d j l)) (split j h) e in
         let took' = subst (λ (d : ℕ). Took L c ws d j l) (split j h) took in
         let o = back-order (n - suc j) (suc j) l (tabled-order l t) (took' .1) in
-        let q = undo-same (changedAt L c ws k) (changeAt L c ws j) (back L c ws (n - suc j) (suc j) l) o (took' .0) (subst (λ (q : Prefix). same (changedAt L c ws k) q ≡ true) (sym (prefix-is j)) f) in
+        let q =
+        undo-same (changedAt L c ws k) (changeAt L c ws j) (back L c ws (n - suc j) (suc j) l) o (took' .0)
+        (subst (λ (q : Prefix). same (changedAt L c ws k) q ≡ true) (sym (prefix-is j)) f) in
         sym (e' ∙ q ∙ leaves-is j)
 
     pub turned-table : (j : ℕ) → n ≤ j → Turned j → (p : Prefix) → p ≡ changedAt L c ws k → (r : Spot) → Finds L c ws p r → (b : Bool) → b ≡ isAt r → ThereSays L c ws n k b

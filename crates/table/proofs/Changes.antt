@@ -48,7 +48,8 @@ module _ {P : Type 0} (L : Layout P) (laid : Laid L) where
     goes-accepted = (g .0, record { means = own-sound L laid ws c n own e (g .0) (g .2) .1 (g .1); capacityIs = g .2; numberIs = g .3 })
 
     -- the own words as the call leaves them, and the words past them as they were
-    pub goes : (zs : List ℕ) → length zs ≡ length (take n ws) → shown (L .rules .width) call (g .0) ≡ nothing → Does L c call (take n ws) zs → Promise (tree L) call ws (zs ++ drop n ws) 0 nothing
+    pub goes : (zs : List ℕ) → length zs ≡ length (take n ws) → shown (L .rules .width) call (g .0) ≡ nothing → Does L c call (take n ws) zs
+        → Promise (tree L) call ws (zs ++ drop n ws) 0 nothing
     unfolding goes-accepted
     goes zs l sh d =
         let s = g .0 in
@@ -57,10 +58,12 @@ module _ {P : Type 0} (L : Layout P) (laid : Laid L) where
         let front : length zs ≡ n = l ∙ length-take-le n ws goes-in in
         let long : length (zs ++ drop n ws) ≡ length ws = length-front ws zs n l in
         let whole : Means L (zs ++ drop n ws) (v .0) =
-        means-frame L laid zs (zs ++ drop n ws) (v .0) (v .2) (le-trans (v .2 .longEnough) (omega (arith, front, long, goes-in))) (λ i k. sym (List·getD-append zs (drop n ws) 0 i (le-trans k (v .2 .longEnough)))) in
+        means-frame L laid zs (zs ++ drop n ws) (v .0) (v .2) (le-trans (v .2 .longEnough) (omega (arith, front, long, goes-in)))
+        (λ i k. sym (List·getD-append zs (drop n ws) 0 i (le-trans k (v .2 .longEnough)))) in
         let past : (i : ℕ) → size L (capacityIn ws) ≤ i → word (zs ++ drop n ws) i ≡ word ws i = λ i k.
         let same : length zs + (i - n) ≡ i = omega (arith, front, e, ap (size L) (own .2)) in
-        ap (λ (x : ℕ). getD (zs ++ drop n ws) x 0) (sym same) ∙ getD-append-add zs (drop n ws) (i - n) 0 ∙ getD-drop n ws (i - n) 0 ∙ ap (λ (x : ℕ). getD ws x 0) (ap (λ (x : ℕ). x + (i - n)) (sym front) ∙ same) in
+        ap (λ (x : ℕ). getD (zs ++ drop n ws) x 0) (sym same) ∙ getD-append-add zs (drop n ws) (i - n) 0 ∙ getD-drop n ws (i - n) 0
+        ∙ ap (λ (x : ℕ). getD ws x 0) (ap (λ (x : ℕ). x + (i - n)) (sym front) ∙ same) in
         promise-of (tree L) call ws (zs ++ drop n ws) 0 nothing (some s) (meant-one (tree L) ws s (g .1)) (sym (g .3))
         (sym (ap (λ (b : Bool). cond b (shown (L .rules .width) call s) nothing) acc ∙ sh)) (subst (Meant (tree L) (zs ++ drop n ws)) (sym (v .1)) whole) (λ z. absurd (z refl)) long past
 

@@ -258,13 +258,15 @@ module _ {P : Type 0} (L : Layout P) (laid : Laid L) where
       let k : suc (length (n .older)) ≡ standingIn ys = standing-is L ys t (n .change ∷ n .older) (f s a) (n .trialIs) in
       let few : suc (length (n .older)) ≤ L .rules .standing = rw (n .trialIs) at (a .means .lawful .few) in
       let struck = strike-encodes L laid ys t (n .change) (n .older) (standingIn ys - 1) (f s a) (n .trialIs) (omega (arith, k)) (omega (arith, k, few)) in
-      let there : Encodes L zs (steppedBack s (s .trial)) = subst (λ (l : List ℕ). Encodes L l (steppedBack s (s .trial))) (sym e) (subst (Encodes L (writes ((4, standingIn ys - 1) ∷ []) ys)) (stepped-is L c ws s n) struck) in
+      let there : Encodes L zs (steppedBack s (s .trial)) =
+      subst (λ (l : List ℕ). Encodes L l (steppedBack s (s .trial))) (sym e) (subst (Encodes L (writes ((4, standingIn ys - 1) ∷ []) ys)) (stepped-is L c ws s n) struck) in
       does-of L c stepBack ws zs s (steppedBack s (s .trial)) a refl there
 
   -- ---- the trial closed
 
   -- when none is left the trial is closed
-  pub going-does : (c : ℕ) (ws ys zs : List ℕ) → ((s : State P) → Accepts L c backOut ws s → Going L c ys s) → word ys 4 ≡ 0 → zs ≡ writes (headWrites 0 0) ys → Does L c backOut ws zs
+  pub going-does : (c : ℕ) (ws ys zs : List ℕ) → ((s : State P) → Accepts L c backOut ws s → Going L c ys s) → word ys 4 ≡ 0 → zs ≡ writes (headWrites 0 0) ys
+      → Does L c backOut ws zs
   going-does c ws ys zs f none-left e s a = go (f s a .left) (f s a .trialIs) (f s a .same)
     where
       go : (cs : List (Change P)) → f s a .state .trial ≡ opened cs → undoAll cs (f s a .state .routes) ≡ undoAll (changes (s .trial)) (s .routes)

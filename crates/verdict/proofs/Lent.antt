@@ -41,11 +41,13 @@ module _ {P : Type 0} (L : Layout P) (laid : Laid L) where
   pub own-sound : (ws : List ℕ) (c n : ℕ) → OwnRight (tree L) ws (Capacity c) → n ≡ size L c → (s : State P) → s .capacity ≡ c → Means L (take n ws) s ↔ Means L ws s
   own-sound ws c n o e s f = means-part L laid ws n s (own-in L ws c n o e) (le-of-eq (ap (size L) f ∙ sym e))
 
-  pub tested-sound : (ws : List ℕ) (c n : ℕ) (r : Bool) → OwnRight (tree L) ws (Capacity c) → n ≡ size L c → (r ≡ true) ↔ ((s : State P) × Means L (take n ws) s × (s .capacity ≡ c)) → r ≡ true
+  pub tested-sound : (ws : List ℕ) (c n : ℕ) (r : Bool) → OwnRight (tree L) ws (Capacity c) → n ≡ size L c
+      → (r ≡ true) ↔ ((s : State P) × Means L (take n ws) s × (s .capacity ≡ c)) → r ≡ true
       → (s : State P) × Means L ws s × (s .capacity ≡ c)
   tested-sound ws c n r o e a t = let v = a .0 t in (v .0, own-sound ws c n o e (v .0) (v .2) .0 (v .1), v .2)
 
-  pub tested-unsound : (ws : List ℕ) (c n : ℕ) (r : Bool) → OwnRight (tree L) ws (Capacity c) → n ≡ size L c → (r ≡ true) ↔ ((s : State P) × Means L (take n ws) s × (s .capacity ≡ c)) → r ≡ false → Sound (tree L) ws → ⊥
+  pub tested-unsound : (ws : List ℕ) (c n : ℕ) (r : Bool) → OwnRight (tree L) ws (Capacity c) → n ≡ size L c
+      → (r ≡ true) ↔ ((s : State P) × Means L (take n ws) s × (s .capacity ≡ c)) → r ≡ false → Sound (tree L) ws → ⊥
   tested-unsound ws c n r o e a t v =
       let f : v .0 .capacity ≡ c = sym (v .1 .capacityThere) ∙ o .2 in
       true≢false (sym (a .1 (v .0, own-sound ws c n o e (v .0) f .1 (v .1), f)) ∙ t)
