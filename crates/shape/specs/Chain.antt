@@ -38,7 +38,7 @@ module _ {P : Type 0} (L : Layout P) where
   -- What is answered of one link of a leaf.
   abbrev pub HungSays : ℕ → List ℕ → ℕ → ℕ → ℕ → Hung → Type 0
   HungSays c ws link a bound Hung.Bad = (i : ℕ) → HungFine c ws link a bound i → ⊥
-  HungSays c ws link a bound (Hung.Next l n) = (i : ℕ) × HungFine c ws link a bound i × (l ≡ nextAt L ws i) × (n ≡ lengthAt ws i)
+  HungSays c ws link a bound (Hung.Next l n) = (i : ℕ) × HungFine c ws link a bound i × (l ≡ nextAt L ws i) × (n .0 ≡ lengthAt ws i)
 
   -- From the link on hang routes of one address, as a leaf's do.
   pub record LeafFine (c : ℕ) (ws : List ℕ) (link a : ℕ) (es : List (Entry (Seat P))) : Type 0 where

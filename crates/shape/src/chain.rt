@@ -6,11 +6,13 @@ ghost use Rattle.pool.specs.Fit.{Fit};
 ghost use Rattle.shape.specs.Chain.{RouteFine, HungSays, ChainSays};
 use pool::Link;
 use pool::Place;
+use route::Length;
+use route::Prefix;
 
 // One route of a chain: bad, or good, with the link to the next and its length, below which the next must stay.
 pub enum Hung {
     Bad,
-    Next { link: u32, bound: u32 },
+    Next { link: u32, bound: Length },
 }
 
 // The routes of one address.
@@ -48,9 +50,9 @@ fn route_is_good(pool: &[u32], capacity: usize, place: Place) -> bool
 }
 
 // Whether a link leads to a good route of this address that is shorter than the bound.
-fn step(pool: &[u32], capacity: usize, link: u32, address: u32, bound: u32) -> Hung
+fn step(pool: &[u32], capacity: usize, link: u32, address: u32, bound: Length) -> Hung
     requires { ⌜ Fit ipv4 capacity (now pool) ⌝ }
-    ensures { λ r. ⌜ HungSays ipv4 capacity (now (pool .entry)) link address bound r ⌝ }
+    ensures { λ r. ⌜ HungSays ipv4 capacity (now (pool .entry)) link address (bound .0) r ⌝ }
 {
     let Link::Route(place) = pool::link_from(link) else {
         return Hung::Bad;
@@ -63,8 +65,8 @@ fn step(pool: &[u32], capacity: usize, link: u32, address: u32, bound: u32) -> H
     if prefix.address != address {
         return Hung::Bad;
     }
-    let length = prefix.length.0;
-    if bound <= length {
+    let length = prefix.length;
+    if bound.0 <= length.0 {
         return Hung::Bad;
     }
     Hung::Next {
@@ -84,7 +86,7 @@ pub fn audit_chain(pool: &[u32], capacity: usize, place: Place) -> ChainAudit
     }
     let address = pool::route_at(pool, place).prefix.address;
     let mut link = pool::route_link(place);
-    let mut bound: u32 = 33;
+    let mut bound = Length(Prefix::WIDTH + 1);
     let mut routes: usize = 0;
     while link != 0 {
         let Hung::Next {

@@ -1,3 +1,5 @@
+-- The loop goes along the chain: what hangs from the link on, with the routes passed, is what hangs from the place. Each step lowers
+-- the bound, which is the measure.
 use mathlib.Core.Path.{ap, subst}
 use native.Mathlib.Omega.{arith}
 use borrow.Author.Needs.{needs}
@@ -11,10 +13,10 @@ use Rattle.shape.proofs.chain.audit_chain.Statement.{statement}
 use Rattle.shape.proofs.chain.audit_chain.Tie as tie
 
 abbrev Inv-loop : tie.InvT-loop
-Inv-loop pool capacity first address link₀ bound₀ routes₀ link bound routes = Along ipv4 capacity pool address link₀ link bound routes
+Inv-loop pool capacity first address link₀ bound₀ routes₀ link bound routes = Along ipv4 capacity pool address link₀ link (bound .0) routes
 
 abbrev μ-loop : tie.MeasureT-loop
-μ-loop pool capacity first address link₀ bound₀ routes₀ link bound routes = bound
+μ-loop pool capacity first address link₀ bound₀ routes₀ link bound routes = bound .0
 
 returns : tie.Need-returns Inv-loop μ-loop
 returns c a es f = omega (arith, leaf-address ipv4 _ _ a _ es f .0, c .if1 .taken)
@@ -24,6 +26,9 @@ route-at-requires c κs = search needs
 
 route-link-requires : tie.Need-route-link-requires Inv-loop μ-loop
 route-link-requires c κs = search needs
+
+add-t13 : tie.Need-add-t13 Inv-loop μ-loop
+add-t13 c = search needs
 
 loop-holds : tie.Need-loop-holds Inv-loop μ-loop
 loop-holds c = along-start ipv4 _ _ _ (c .route-link .result)
@@ -37,21 +42,25 @@ enum-known-next c = search needs
 enum-told : tie.Need-enum-told Inv-loop μ-loop
 enum-told c = search needs
 
+abbrev entry : tie.At-loop Inv-loop μ-loop → tie.Start Inv-loop μ-loop
+entry c = c .before .before .before .before .before
+
+-- what a step says of the link that the loop is at
+abbrev Says : tie.At-loop Inv-loop μ-loop → Hung → Type 0
+Says c = HungSays ipv4 (entry c .args .capacity) (entry c .args .pool .now) (c .loop .link) (c .before .before .route-at .result .prefix .address) (c .loop .bound .0)
+
 returns-2 : tie.Need-returns-2 Inv-loop μ-loop
 returns-2 c =
-    let address = ap (λ (r : Route Hop). r .prefix .address) (c .before .before .before .before .before .before .route-at .ensures) in
-    let bad = subst (HungSays ipv4 (c .before .before .before .before .before .before .before .before .before .args .capacity) (c .before .before .before .before .before .before .before .before .before .args .pool .now) (c .before .before .before .before .loop .link) (c .before .before .before .before .before .before .route-at .result .prefix .address) (c .before .before .before .before .loop .bound)) (c .enum-told .given .1) (c .before .before .step .ensures) in
-    chain-bad ipv4 _ _ _ _ _ _ _ _ (c .before .before .before .before .before .route-link .ensures) (c .before .before .before .before .loop .inv) address (c .before .before .before .loop-test .taken) bad
+    let at = c .before .before .before .before in
+    let address = ap (λ (r : Route Hop). r .prefix .address) (at .before .before .route-at .ensures) in
+    let bad = subst (Says at) (c .enum-told .given .1) (c .before .before .step .ensures) in
+    chain-bad ipv4 _ _ _ _ _ _ _ _ (at .before .route-link .ensures) (at .loop .inv) address (c .before .before .before .loop-test .taken) bad
 
 add-routes : tie.Need-add-routes Inv-loop μ-loop
 add-routes c = omega (arith, c .before .before .before .before .before .loop .inv .few)
 
-next-says : (c : tie.After-known-told Inv-loop μ-loop)
-    → HungSays ipv4 (c .before .before .before .before .before .before .before .before .before .before .args .capacity) (c .before .before .before .before .before .before .before .before .before .before .args .pool .now) (c .before .before .before .before .before .loop .link) (c .before .before .before .before .before .before .before .route-at .result .prefix .address) (c .before .before .before .before .before .loop .bound)
-    (Hung.Next (c .before .next .given .0 .0) (c .before .next .given .0 .1 .0))
-next-says c =
-    subst (HungSays ipv4 (c .before .before .before .before .before .before .before .before .before .before .args .capacity) (c .before .before .before .before .before .before .before .before .before .before .args .pool .now) (c .before .before .before .before .before .loop .link) (c .before .before .before .before .before .before .before .route-at .result .prefix .address) (c .before .before .before .before .before .loop .bound))
-    (c .before .next .given .1) (c .before .before .before .step .ensures)
+next-says : (c : tie.After-known-told Inv-loop μ-loop) → Says (c .before .before .before .before .before) (Hung.Next (c .before .next .given .0 .0) (c .before .next .given .0 .1 .0))
+next-says c = subst (Says (c .before .before .before .before .before)) (c .before .next .given .1) (c .before .before .before .step .ensures)
 
 loop-less : tie.Need-loop-less Inv-loop μ-loop
 loop-less c = let (i, f, p, q) = next-says c in omega (arith, q, f .shorter)
@@ -71,6 +80,7 @@ audit-chain-spec =
     returns
     route-at-requires
     route-link-requires
+    add-t13
     loop-holds
     step-requires
     enum-known-next

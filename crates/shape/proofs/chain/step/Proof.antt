@@ -1,5 +1,8 @@
+-- A route that the link leads to is at the place that the link was read as, so a test that fails there refuses every route.
+-- Where no test fails, the place itself is the route that the link leads to.
 use Prim.Native.Nat.{ℕ, _<_}
 use mathlib.Core.Path.{_≡_, ap, sym, subst, _∙_}
+use mathlib.Core.List.{List}
 use mathlib.Core.Logic.{⊎-elim}
 use native.Mathlib.Omega.{arith}
 use borrow.Author.Needs.{needs}
@@ -29,57 +32,78 @@ returns c i f =
 route-is-good-requires : tie.Need-route-is-good-requires
 route-is-good-requires c κs = search needs
 
--- the place that the link was read as
-place-of : (c : tie.After-known-told) → c .before .before .before .before .before .args .link ≡ toRoute (c .before .place .given .0 .0 .0)
-place-of c = route-from (c .before .before .before .before .before .args .link) (c .before .place .given .0 .0) (sym (c .before .before .before .link-from .ensures) ∙ c .before .place .given .1)
+-- the entry, and the words there
+abbrev entry : tie.After-known-told → tie.Start
+entry c = c .before .before .before .before .before
+
+abbrev words : tie.After-known-told → List ℕ
+words c = entry c .args .pool .now
+
+-- where the link was read as a place, and where the route there was read
+abbrev placed : tie.After-route-at → tie.After-known-told
+placed c = c .before .before .before
+
+abbrev read : tie.After-struct-known3 → tie.After-route-at
+read c = c .before .before .before .before .before .before
+
+abbrev place : tie.After-known-told → ℕ
+place c = c .before .place .given .0 .0 .0
+
+-- the link leads to that place
+place-of : (c : tie.After-known-told) → entry c .args .link ≡ toRoute (place c)
+place-of c = route-from (entry c .args .link) (c .before .place .given .0 .0) (sym (c .before .before .before .link-from .ensures) ∙ c .before .place .given .1)
+
+-- and to no other
+same-place : (c : tie.After-known-told) (i : ℕ) → entry c .args .link ≡ toRoute i → i ≡ place c
+same-place c i u = let v = place-of c in omega (arith, u, v)
 
 returns-2 : tie.Need-returns-2
 returns-2 c i f =
-    let v = place-of (c .before .before) in
-    let u = f .linked in
-    let same : i ≡ c .before .before .before .place .given .0 .0 .0 = omega (arith, u, v) in
+    let same = same-place (c .before .before) i (f .linked) in
     not-both (c .before .route-is-good .ensures .1 (subst (RouteFine ipv4 _ _) same (f .fine))) (not-true _ (c .if1 .taken))
 
 -- the route there is fine
-fine : (c : tie.Else1) → RouteFine ipv4 (c .before .before .before .before .before .before .before .args .capacity) (c .before .before .before .before .before .before .before .args .pool .now) (c .before .before .before .place .given .0 .0 .0)
+fine : (c : tie.Else1) → RouteFine ipv4 (entry (c .before .before) .args .capacity) (words (c .before .before)) (place (c .before .before))
 fine c = c .before .route-is-good .ensures .0 (not-false _ (c .if1 .left))
 
 route-at-requires : tie.Need-route-at-requires
-route-at-requires c κs = let f = fine c in omega (arith, f .inPool, c .before .before .before .before .before .before .before .pre)
+route-at-requires c κs = let f = fine c in omega (arith, f .inPool, entry (c .before .before) .pre)
+
+-- its address and its length are those of the place
+address-read : (c : tie.After-route-at) → c .route-at .result .prefix .address ≡ addressAt ipv4 (words (placed c)) (place (placed c))
+address-read c = ap (λ (r : Route Hop). r .prefix .address) (c .route-at .ensures)
+
+length-read : (c : tie.After-route-at) → c .route-at .result .prefix .length .0 ≡ lengthAt ipv4 (words (placed c)) (place (placed c))
+length-read c = ap (λ (r : Route Hop). r .prefix .length) (c .route-at .ensures)
 
 returns-3 : tie.Need-returns-3
 returns-3 c i f =
-    let v = place-of (c .before .before .before .before .before .before) in
-    let u = f .linked in
-    let same : i ≡ c .before .before .before .before .before .before .before .place .given .0 .0 .0 = omega (arith, u, v) in
-    c .if2 .taken (ap (λ (r : Route Hop). r .prefix .address) (c .before .before .before .route-at .ensures) ∙ ap (addressAt ipv4 (c .before .before .before .before .before .before .before .before .before .before .before .args .pool .now)) (sym same) ∙ f .address)
+    let r = c .before .before .before in
+    let same = same-place (placed r) i (f .linked) in
+    c .if2 .taken (address-read r ∙ ap (addressAt ipv4 (words (placed r))) (sym same) ∙ f .address)
 
 returns-4 : tie.Need-returns-4
 returns-4 c i f =
-    let v = place-of (c .before .before .before .before .before .before .before) in
-    let u = f .linked in
-    let same : i ≡ c .before .before .before .before .before .before .before .before .place .given .0 .0 .0 = omega (arith, u, v) in
-    let n = ap (λ (r : Route Hop). r .prefix .length) (c .before .before .before .before .route-at .ensures) ∙ ap (lengthAt ipv4 (c .before .before .before .before .before .before .before .before .before .before .before .before .args .pool .now)) (sym same) in
+    let r = read (c .before) in
+    let same = same-place (placed r) i (f .linked) in
+    let n = length-read r ∙ ap (lengthAt ipv4 (words (placed r))) (sym same) in
     omega (arith, n, f .shorter, c .if3 .taken)
 
 next-at-requires : tie.Need-next-at-requires
-next-at-requires c κs = let f = fine (c .before .before .before .before .before) in omega (arith, f .inPool, c .before .before .before .before .before .before .before .before .before .before .before .before .pre)
+next-at-requires c κs = let r = read (c .before) in let f = fine (r .before) in omega (arith, f .inPool, entry (placed r) .pre)
 
 returns-5 : tie.Need-returns-5
 returns-5 c =
-    let i = c .before .before .before .before .before .before .before .before .before .place .given .0 .0 .0 in
-    let ws = c .before .before .before .before .before .before .before .before .before .before .before .before .before .args .pool .now in
-    let r = c .before .before .before .before .before .route-at .ensures in
-    let n : _ ≡ lengthAt ipv4 ws i = ap (λ (r : Route Hop). r .prefix .length) r in (
-      i,
+    let r = read (c .before .before) in (
+      place (placed r),
       record {
-        linked = place-of (c .before .before .before .before .before .before .before .before);
-        fine = fine (c .before .before .before .before .before .before);
-        address = sym (ap (λ (r : Route Hop). r .prefix .address) r) ∙ c .before .before .if2 .left;
-        shorter = subst (λ (x : ℕ). x < c .before .before .before .before .before .before .before .before .before .before .before .before .before .args .bound) n (c .before .if3 .left);
+        linked = place-of (placed r);
+        fine = fine (r .before);
+        address = sym (address-read r) ∙ c .before .before .before .before .before .if2 .left;
+        shorter = subst (λ (x : ℕ). x < entry (placed r) .args .bound .0) (length-read r) (c .before .if3 .left);
       },
       c .next-at .ensures,
-      n,
+      length-read r,
     )
 
 pub step-spec : {M : Type 1} → statement M
