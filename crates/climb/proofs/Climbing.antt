@@ -70,7 +70,8 @@ module _ {P : Type 0} (L : Layout P) where
     pub match-end : (i : ℕ) → Matching c ws d first i → matches (L .rules .width) (heldPrefix L ws i) d ≡ false → nextAt L ws i ≡ 0 → Unmatched c ws d first
     match-end i all f e a es h g = let b = all a es h g in behind-last L c ws (Matched d a) a i es b e (skip a i es b f) none refl
 
-    match-hit : (i : ℕ) → Matching c ws d first i → matches (L .rules .width) (heldPrefix L ws i) d ≡ true → (a : ℕ) (es : List (Entry (Seat P))) → Chain L c ws a (toRoute first) es → LongestFirst es
+    match-hit : (i : ℕ) → Matching c ws d first i → matches (L .rules .width) (heldPrefix L ws i) d ≡ true → (a : ℕ) (es : List (Entry (Seat P)))
+        → Chain L c ws a (toRoute first) es → LongestFirst es
         → Matched d a (some (routeAt L ws i)) es
     match-hit i all t a es h g =
         let b = all a es h g in
@@ -99,12 +100,15 @@ module _ {P : Type 0} (L : Layout P) where
   AllClimbing c ws d inner level first = (t : Seated P) → Holds L c ws (rootIn ws) t → Good (L .rules .width) (bare t) → Climbing c ws d inner level first t
 
   -- at the leaf to which the way down leads
-  pub climb-start : (c : ℕ) (ws : List ℕ) (d : ℕ) (inner : List ℕ) (deep : ℕ) (stop : end.End) (p : Place) → Ways L c ws d inner deep stop → EndsAt stop p → AllClimbing c ws d inner deep (p .0)
+  pub climb-start : (c : ℕ) (ws : List ℕ) (d : ℕ) (inner : List ℕ) (deep : ℕ) (stop : end.End) (p : Place) → Ways L c ws d inner deep stop → EndsAt stop p
+      → AllClimbing c ws d inner deep (p .0)
   climb-start c ws d inner deep stop p ways e t h g =
       let l = ways .leads t h g in
       let es = l .entry ∷ l .rest in
       let part : Tree ℕ P = leaf (l .address) (bareEntries es) in
-      let held = part-held L c ws (rootIn ws) (l .way) (leaf (l .address) es) (subst (Holds L c ws (rootIn ws)) (sym (l .whole)) h) (subst (λ (x : Seated P). Good (L .rules .width) (bare x)) (sym (l .whole)) g) in
+      let held =
+      part-held L c ws (rootIn ws) (l .way) (leaf (l .address) es) (subst (Holds L c ws (rootIn ws)) (sym (l .whole)) h)
+      (subst (λ (x : Seated P). Good (L .rules .width) (bare x)) (sym (l .whole)) g) in
       record {
         way = l .way;
         address = l .address;
@@ -115,7 +119,9 @@ module _ {P : Type 0} (L : Layout P) where
         beside = held .beside;
         hangs = led-chain L c ws d inner deep stop t l p e;
         longest = led-longest L c ws d inner deep stop t l g;
-        sum = sym (search-best (L .rules .width) d (bare t) g) ∙ ap (search (L .rules .width) d) (led-bare L c ws d inner deep stop t l) ∙ climb-search (L .rules .width) d (bareWay (l .way)) part (bare-follows (L .rules .width) d (l .way) (l .follows));
+        sum =
+            sym (search-best (L .rules .width) d (bare t) g) ∙ ap (search (L .rules .width) d) (led-bare L c ws d inner deep stop t l)
+            ∙ climb-search (L .rules .width) d (bareWay (l .way)) part (bare-follows (L .rules .width) d (l .way) (l .follows));
       }
 
   -- ---- up from a leaf that has no match
@@ -151,7 +157,8 @@ module _ {P : Type 0} (L : Layout P) where
     good : Good (L .rules .width) (bare side)
     sum : best (L .rules .width) d (routes (bare t)) ≡ climb (L .rules .width) d (bareWay above) (leftmostMatch (L .rules .width) d (bare side))
 
-  left-side : (c : ℕ) (ws : List ℕ) (d : ℕ) (inner : List ℕ) (level : ℕ) (t : Seated P) (s : Step ℕ (Seat P)) (w : List (Step ℕ (Seat P))) → sideOf s ≡ 1 → level ≡ length w → Kept inner (s ∷ w)
+  left-side : (c : ℕ) (ws : List ℕ) (d : ℕ) (inner : List ℕ) (level : ℕ) (t : Seated P) (s : Step ℕ (Seat P)) (w : List (Step ℕ (Seat P))) → sideOf s ≡ 1 → level ≡ length w
+      → Kept inner (s ∷ w)
       → Follows (L .rules .width) d (s ∷ w) → WayHeld L c ws (s ∷ w) → best (L .rules .width) d (routes (bare t)) ≡ upFrom d (s ∷ w) → LeftSide c ws d inner level t
   left-side c ws d inner level t (wentLeft n b r) w e l k f h q = absurd (omega arith)
   left-side c ws d inner level t (wentRight n b x) w e l k f h q = record {
@@ -179,7 +186,8 @@ module _ {P : Type 0} (L : Layout P) where
     }
 
     -- the leaf has no match, so the climb goes on
-    nothing-here : Unmatched c ws d first → (t : Seated P) (h : Holds L c ws (rootIn ws) t) (g : Good (L .rules .width) (bare t)) → best (L .rules .width) d (routes (bare t)) ≡ upFrom d (all t h g .way)
+    nothing-here : Unmatched c ws d first → (t : Seated P) (h : Holds L c ws (rootIn ws) t) (g : Good (L .rules .width) (bare t))
+        → best (L .rules .width) d (routes (bare t)) ≡ upFrom d (all t h g .way)
     nothing-here u t h g = let k = all t h g in k .sum ∙ ap (climb (L .rules .width) d (bareWay (k .way))) (u (k .address) (k .entries) (k .hangs) (k .longest))
 
     pub climbs-top : Unmatched c ws d first → Rises L c ws d 1 inner level rise.Rise.Top → Climbs L c ws d 13 nothing
@@ -191,7 +199,8 @@ module _ {P : Type 0} (L : Layout P) where
     }
 
     -- the left side at the level that the climb goes on from
-    beside : (below : ℕ) → Unmatched c ws d first → Rises L c ws d 1 inner level (rise.Rise.At below) → (t : Seated P) → Holds L c ws (rootIn ws) t → Good (L .rules .width) (bare t) → LeftSide c ws d inner below t
+    beside : (below : ℕ) → Unmatched c ws d first → Rises L c ws d 1 inner level (rise.Rise.At below) → (t : Seated P) → Holds L c ws (rootIn ws) t
+        → Good (L .rules .width) (bare t) → LeftSide c ws d inner below t
     beside below u s t h g =
         let k = all t h g in
         let v = rise-at L c ws d inner (upFrom d) 1 (pass-left d) (k .way) below (k .places) (k .follows) (k .beside) (subst (λ (y : ℕ). below < y) (k .steps) (s .0)) (s .1)
@@ -199,7 +208,8 @@ module _ {P : Type 0} (L : Layout P) where
         left-side c ws d inner below t (v .step) (v .above) (v .took) (v .steps) (v .places) (v .follows) (v .beside) (nothing-here u t h g ∙ v .sum)
 
     -- the next leaf
-    pub climb-on : (below : ℕ) (p : Place) → Unmatched c ws d first → Rises L c ws d 1 inner level (rise.Rise.At below) → Leftmost L c ws (leftAt L c ws (getD inner below 0)) (edge.Edge.Leaf p)
+    pub climb-on : (below : ℕ) (p : Place) → Unmatched c ws d first → Rises L c ws d 1 inner level (rise.Rise.At below)
+        → Leftmost L c ws (leftAt L c ws (getD inner below 0)) (edge.Edge.Leaf p)
         → AllClimbing c ws d inner below (p .0)
     climb-on below p u s m t h g =
         let v = beside below u s t h g in

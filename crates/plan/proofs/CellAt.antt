@@ -45,7 +45,8 @@ module _ {P : Type 0} (L : Layout P) (laid : Laid L) (c : ℕ) (ws inner : List 
 
   -- ---- on a way that the words hold
 
-  kept-side : (n j b a v : ℕ) → n ≡ j → markAt L c ws j ≡ suc b → bit (L .rules .width) b a ≡ v → L .joint c n + 1 + bit (L .rules .width) (markAt L c ws n - 1) a ≡ L .joint c j + 1 + v
+  kept-side : (n j b a v : ℕ) → n ≡ j → markAt L c ws j ≡ suc b → bit (L .rules .width) b a ≡ v
+      → L .joint c n + 1 + bit (L .rules .width) (markAt L c ws n - 1) a ≡ L .joint c j + 1 + v
   kept-side n j b a v e m s =
       let q : markAt L c ws n - 1 ≡ b = omega (arith, ap (markAt L c ws) e, m) in
       omega (arith, ap (L .joint c) e, ap (λ (x : ℕ). bit (L .rules .width) x a) q, s)
@@ -55,7 +56,8 @@ module _ {P : Type 0} (L : Layout P) (laid : Laid L) (c : ℕ) (ws inner : List 
   cell-way a (wentLeft j b r ∷ w) k f h = kept-side (getD inner (length w) 0) j b a 0 (k .0) (h .1) (f .0) ∙ omega arith
   cell-way a (wentRight j b l ∷ w) k f h = kept-side (getD inner (length w) 0) j b a 1 (k .0) (h .1) (f .0) ∙ omega arith
 
-  pub right-cell : (n a r : ℕ) (w : List (Step ℕ (Seat P))) → CellRight L c ws inner n a r → n ≡ length w → Kept inner w → Follows (L .rules .width) a w → HoldsWay L c ws w → cellOf L c w ≡ r
+  pub right-cell : (n a r : ℕ) (w : List (Step ℕ (Seat P))) → CellRight L c ws inner n a r → n ≡ length w → Kept inner w → Follows (L .rules .width) a w → HoldsWay L c ws w
+      → cellOf L c w ≡ r
   right-cell n a r w x e k f h = sym (x .cellIs ∙ ap (λ (m : ℕ). cellAt L c ws inner m a) e ∙ cell-way a w k f h)
 
   -- ---- up to a level
@@ -84,7 +86,8 @@ module _ {P : Type 0} (L : Layout P) (laid : Laid L) (c : ℕ) (ws inner : List 
     later : (w : List (Step ℕ (Seat P))) (j b : ℕ) → getD inner (length w) 0 ≡ j → markAt L c ws j ≡ suc b → length w < d → length w ≡ n → k < b
     later w j b p m l e = omega (arith, v .past (omega arith), ap (λ (x : ℕ). markAt L c ws (getD inner x 0)) e, ap (markAt L c ws) p, m)
 
-    up-here : (w : List (Step ℕ (Seat P))) (t : Seated P) → (length w ≡ n → Grows k t) → Kept inner w → Follows (L .rules .width) a w → HoldsWay L c ws w → length w ≡ n → UpTo a k n (plug w t)
+    up-here : (w : List (Step ℕ (Seat P))) (t : Seated P) → (length w ≡ n → Grows k t) → Kept inner w → Follows (L .rules .width) a w → HoldsWay L c ws w → length w ≡ n
+        → UpTo a k n (plug w t)
     up-here w t g p f h e = record {
       way = w;
       part = t;
@@ -97,7 +100,8 @@ module _ {P : Type 0} (L : Layout P) (laid : Laid L) (c : ℕ) (ws inner : List 
       holds = h;
     }
 
-    pub up-to : (w : List (Step ℕ (Seat P))) (t : Seated P) → length w ≤ d → n ≤ length w → (length w ≡ n → Grows k t) → Kept inner w → Follows (L .rules .width) a w → HoldsWay L c ws w
+    pub up-to : (w : List (Step ℕ (Seat P))) (t : Seated P) → length w ≤ d → n ≤ length w → (length w ≡ n → Grows k t) → Kept inner w → Follows (L .rules .width) a w
+        → HoldsWay L c ws w
         → UpTo a k n (plug w t)
     up-to [] t l m g p f h = up-here [] t g p f h (omega arith)
     up-to (wentLeft j b r ∷ w) t l m g p f h =

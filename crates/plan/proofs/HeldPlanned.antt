@@ -40,7 +40,8 @@ module _ {P : Type 0} (L : Layout P) (laid : Laid L) where
         → (j : ℕ) × HungIn L from n es cell j × (word ws cell ≡ toRoute j) × (j < c)
     hung-found a es h s w k =
         let b = x .exact a es h s in
-        let whole : Chain L c ws a (word ws from) (b .longer ++ b .others) = subst (λ (xs : List (Entry (Seat P))). Chain L c ws a (word ws from) xs) (sym (b .whole)) (subst (λ (y : ℕ). Chain L c ws a y es) (sym w) h) in
+        let whole : Chain L c ws a (word ws from) (b .longer ++ b .others) =
+        subst (λ (xs : List (Entry (Seat P))). Chain L c ws a (word ws from) xs) (sym (b .whole)) (subst (λ (y : ℕ). Chain L c ws a y es) (sym w) h) in
         let tail = chain-split L c ws a from (b .longer) (b .others) whole .1 in
         let v = has-first n (b .others) (b .othersAre) (longest-tail (b .longer) (b .others) (subst LongestFirst (sym (b .whole)) s))
         (has-behind n (b .longer) (b .others) (b .longerAre) (subst (Has n) (sym (b .whole)) k)) in
@@ -82,11 +83,13 @@ module _ {P : Type 0} (L : Layout P) (laid : Laid L) where
 
     module _ (i : Place) (e : stop ≡ end.End.Leaf i) (from : ℕ) (x : CellRight L c ws inner deep (p .address) from) where
       -- what is found of the leaf's routes
-      pub leaf-hung : (r : HeldAt) → HungFrom L c ws from (i .0) (p .length) r → (t : Seated P) (q : Route P) (h : Holds L c ws (rootIn ws) t) (g : Good (L .rules .width) (bare t)) → find p (routes (bare t)) ≡ some q
+      pub leaf-hung : (r : HeldAt) → HungFrom L c ws from (i .0) (p .length) r → (t : Seated P) (q : Route P) (h : Holds L c ws (rootIn ws) t) (g : Good (L .rules .width) (bare t))
+          → find p (routes (bare t)) ≡ some q
           → HungThere L from (p .length) (ways .leads t h g .entry ∷ ways .leads t h g .rest) r
       leaf-hung r y t q h g f =
           let l = ways .leads t h g in
-          y .exact (l .address) (l .entry ∷ l .rest) (led-chain L c ws (p .address) inner deep stop t l i e) (led-longest L c ws (p .address) inner deep stop t l g) (lead-link L laid c ws p inner deep stop t h g l i e from x)
+          y .exact (l .address) (l .entry ∷ l .rest) (led-chain L c ws (p .address) inner deep stop t l i e) (led-longest L c ws (p .address) inner deep stop t l g)
+          (lead-link L laid c ws p inner deep stop t h g l i e from x)
           (lead-found L laid c ws p inner deep stop t h g l q f .1)
 
       -- and of the whole tree

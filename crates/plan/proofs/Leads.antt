@@ -34,7 +34,8 @@ module _ {P : Type 0} (L : Layout P) where
   rooted c ws d inner deep stop i ways e z = let f = ways .empty z in let y : _≡_ {A = ℕ} 0 1 = cc in omega arith
 
 module _ {P : Type 0} (L : Layout P) (laid : Laid L) where
-  module _ (c : ℕ) (ws : List ℕ) (p : Prefix) (inner : List ℕ) (deep : ℕ) (stop : end.End) (t : Seated P) (h : Holds L c ws (rootIn ws) t) (g : Good (L .rules .width) (bare t)) (l : Led L c ws (p .address) inner deep stop t) where
+  module _ (c : ℕ) (ws : List ℕ) (p : Prefix) (inner : List ℕ) (deep : ℕ) (stop : end.End) (t : Seated P) (h : Holds L c ws (rootIn ws) t) (g : Good (L .rules .width) (bare t))
+      (l : Led L c ws (p .address) inner deep stop t) where
     -- the way and the leaf stand in the words
     lead-parts : HoldsWay L c ws (l .way) × Holds L c ws (word ws (cellOf L c (l .way))) (leaf (l .address) (l .entry ∷ l .rest))
     lead-parts = plug-way L c ws (l .way) (leaf (l .address) (l .entry ∷ l .rest)) (subst (Holds L c ws (word ws 2)) (sym (l .whole)) h)
@@ -58,7 +59,8 @@ module _ {P : Type 0} (L : Layout P) (laid : Laid L) where
     lead-find =
         let part : Tree ℕ P = leaf (l .address) (bareEntries (l .entry ∷ l .rest)) in
         sym (find-in (L .rules .width) p (bare t) g) ∙ ap (findIn (L .rules .width) p) (led-bare L c ws (p .address) inner deep stop t l)
-        ∙ find-plug (L .rules .width) p (bareWay (l .way)) part (bare-follows (L .rules .width) (p .address) (l .way) (l .follows)) ∙ find-in (L .rules .width) p part (led-good L c ws (p .address) inner deep stop t l g)
+        ∙ find-plug (L .rules .width) p (bareWay (l .way)) part (bare-follows (L .rules .width) (p .address) (l .way) (l .follows))
+        ∙ find-in (L .rules .width) p part (led-good L c ws (p .address) inner deep stop t l g)
 
     -- its address is the one that is reached
     pub lead-reached : reached (L .rules .width) (p .address) (bare t) ≡ l .address

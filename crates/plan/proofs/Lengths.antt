@@ -32,7 +32,8 @@ module _ {P : Type 0} where
       let v = held-has q a es (w .0) in
       (ap (λ (x : Prefix). x .address) (sym (w .1)) ∙ v .0, subst (λ (x : Prefix). Has (x .length) es) (w .1) (v .1))
 
-  pub absent-has : (p : Prefix) (a : ℕ) (es : List (Entry (Seat P))) → a ≡ p .address → InOrder (hung a (bareEntries es)) → find p (hung a (bareEntries es)) ≡ none → Has (p .length) es → ⊥
+  pub absent-has : (p : Prefix) (a : ℕ) (es : List (Entry (Seat P))) → a ≡ p .address → InOrder (hung a (bareEntries es)) → find p (hung a (bareEntries es)) ≡ none
+      → Has (p .length) es → ⊥
   absent-has p a es f o e h =
       let v = has-held a (p .length) es h in
       absent-not-held p (v .0) (hung a (bareEntries es)) o e (v .1) (v .2 ∙ λ i. record { address = f i; length = p .length })
@@ -62,7 +63,8 @@ module _ {P : Type 0} where
   shorter-more m n (e ∷ es) l s = (omega (arith, s .0), shorter-more m n es l (s .1))
 
   -- it is the first of those that are not longer
-  pub has-first : (n : ℕ) (es : List (Entry (Seat P))) → NotLonger n es → LongestFirst es → Has n es → (e : Entry (Seat P)) × (xs : List (Entry (Seat P))) × (es ≡ e ∷ xs) × (e .length ≡ n)
+  pub has-first : (n : ℕ) (es : List (Entry (Seat P))) → NotLonger n es → LongestFirst es → Has n es
+      → (e : Entry (Seat P)) × (xs : List (Entry (Seat P))) × (es ≡ e ∷ xs) × (e .length ≡ n)
   has-first n (e ∷ es) l s (inl p) = (e, es, refl, p)
   has-first n (e ∷ es) l s (inr h) = absurd (omega (arith, l, shorter-has (e .length) n es (s .0) h))
 

@@ -67,7 +67,8 @@ module _ {P : Type 0} (L : Layout P) (laid : Laid L) (c : ℕ) (ws : List ℕ) (
         joins : (t : Seated P) → Holds L c ws (rootIn ws) t → Good (L .rules .width) (bare t) → JoinsAt L c p t cell k
         joins t h g =
             let l = ways .leads t h g in
-            let there : reached (L .rules .width) (p .address) (bare t) ≡ held = lead-reached L laid c ws p inner deep stop t h g l ∙ sym (lead-address L laid c ws p inner deep stop t h g l i e) ∙ f in
+            let there : reached (L .rules .width) (p .address) (bare t) ≡ held =
+            lead-reached L laid c ws p inner deep stop t h g l ∙ sym (lead-address L laid c ws p inner deep stop t h g l i e) ∙ f in
             let u = up-to L laid c ws inner (p .address) k level deep v (l .way) (leaf (l .address) (l .entry ∷ l .rest)) (omega (arith, l .steps)) (omega (arith, l .steps, v .within)) (λ z. tt)
             (l .places) (l .follows) (lead-way L laid c ws p inner deep stop t h g l) in
             record {

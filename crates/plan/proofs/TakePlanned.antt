@@ -47,7 +47,8 @@ module _ {P : Type 0} (L : Layout P) (laid : Laid L) where
         none (d ∷ w) e = absurd (omega arith)
 
     -- the side that the address does not take
-    other : (x j b s link : ℕ) → x ≡ j → markAt L c ws j ≡ suc b → bit (L .rules .width) b a ≡ s → link ≡ toward (bit (L .rules .width) (markAt L c ws x - 1) a) (rightAt L c ws x) (leftAt L c ws x)
+    other : (x j b s link : ℕ) → x ≡ j → markAt L c ws j ≡ suc b → bit (L .rules .width) b a ≡ s
+        → link ≡ toward (bit (L .rules .width) (markAt L c ws x - 1) a) (rightAt L c ws x) (leftAt L c ws x)
         → toward s (rightAt L c ws j) (leftAt L c ws j) ≡ link
     other x j b s link e m q h =
         let y : bit (L .rules .width) (markAt L c ws x - 1) a ≡ s = ap (λ (z : ℕ). bit (L .rules .width) z a) (omega (arith, ap (markAt L c ws) e, m)) ∙ q in
@@ -123,8 +124,11 @@ module _ {P : Type 0} (L : Layout P) (laid : Laid L) where
       take-nowhere y = record { inPool = tt; exact = λ t q h g f. leaf-hung L laid c ws p inner deep stop ways i e from x at.Nowhere y t q h g f }
 
       -- the leaf's routes hang from its cell
-      leaf-chain : (t : Seated P) (h : Holds L c ws (rootIn ws) t) (g : Good (L .rules .width) (bare t)) (l : Led L c ws (p .address) inner deep stop t) → Chain L c ws (l .address) (word ws from) (l .entry ∷ l .rest)
-      leaf-chain t h g l = subst (λ (y : ℕ). Chain L c ws (l .address) (word ws y) (l .entry ∷ l .rest)) (lead-cell L laid c ws p inner deep stop t h g l from x) (lead-leaf L laid c ws p inner deep stop t h g l)
+      leaf-chain : (t : Seated P) (h : Holds L c ws (rootIn ws) t) (g : Good (L .rules .width) (bare t)) (l : Led L c ws (p .address) inner deep stop t)
+          → Chain L c ws (l .address) (word ws from) (l .entry ∷ l .rest)
+      leaf-chain t h g l =
+          subst (λ (y : ℕ). Chain L c ws (l .address) (word ws y) (l .entry ∷ l .rest)) (lead-cell L laid c ws p inner deep stop t h g l from x)
+          (lead-leaf L laid c ws p inner deep stop t h g l)
 
       module _ (cell : ℕ) (j : Place) (y : HungFrom L c ws from (i .0) (p .length) (at.At cell j)) where
         pub take-link : (cell ≡ from → ⊥) ⊎ (nextAt L ws (j .0) ≡ 0 → ⊥) → TakeRight L c ws p (taken.Link cell j)

@@ -113,7 +113,8 @@ module _ {P : Type 0} (L : Layout P) where
 
 module _ {P : Type 0} (L : Layout P) (laid : Laid L) where
   -- a place that the cell is not of
-  pub inner-whole : (c : ℕ) (ws zs : List ℕ) (cell q j : ℕ) → (cell ≡ L .joint c j + 1) ⊎ (cell ≡ L .joint c j + 2) → (q ≡ j → ⊥) → InnerBut L c ws zs cell q → InnerSame L c ws zs q
+  pub inner-whole : (c : ℕ) (ws zs : List ℕ) (cell q j : ℕ) → (cell ≡ L .joint c j + 1) ⊎ (cell ≡ L .joint c j + 2) → (q ≡ j → ⊥) → InnerBut L c ws zs cell q
+      → InnerSame L c ws zs q
   inner-whole c ws zs cell q j (inl e) n b = record {
     mark = b .mark;
     left = b .left (λ f. n (one-joint L laid c q j 1 1 (omega arith) (omega arith) (f ∙ e) .0));
@@ -152,7 +153,9 @@ module _ {P : Type 0} (L : Layout P) (laid : Laid L) where
         λ q k. inner-whole c ws zs (L .joint c j + 1) q j (inl refl) (apart q k) (g q (inr k)) in
         let s = g j (inl refl) in
         let right : rightAt L c ws j ≡ rightAt L c zs j = s .right (λ p. omega arith) in
-        let v = full-frame w (λ i k. f i (among-append i (routePlaces r) (wayRoutes w) (inr k))) (λ i k. same i (among-append i (innerPlaces r) (wayInners w) (inr k))) (e (λ p. omega (arith, laid .jointFirst c j))) (h .4) in
+        let v =
+        full-frame w (λ i k. f i (among-append i (routePlaces r) (wayRoutes w) (inr k))) (λ i k. same i (among-append i (innerPlaces r) (wayInners w) (inr k)))
+        (e (λ p. omega (arith, laid .jointFirst c j))) (h .4) in
         let x = holds-frame L c ws zs (rightAt L c ws j) r (λ i k. f i (among-append i (routePlaces r) (wayRoutes w) (inl k)))
         (λ i k. same i (among-append i (innerPlaces r) (wayInners w) (inl k))) (h .2) in
         (h .0, sym (s .mark) ∙ h .1, subst (λ (n : ℕ). Holds L c zs n r) right x, sym (v .1) ∙ h .3, v .0)
@@ -162,7 +165,9 @@ module _ {P : Type 0} (L : Layout P) (laid : Laid L) where
         λ q k. inner-whole c ws zs (L .joint c j + 2) q j (inr refl) (apart q k) (g q (inr k)) in
         let s = g j (inl refl) in
         let left : leftAt L c ws j ≡ leftAt L c zs j = s .left (λ p. omega arith) in
-        let v = full-frame w (λ i k. f i (among-append i (routePlaces l) (wayRoutes w) (inr k))) (λ i k. same i (among-append i (innerPlaces l) (wayInners w) (inr k))) (e (λ p. omega (arith, laid .jointFirst c j))) (h .4) in
+        let v =
+        full-frame w (λ i k. f i (among-append i (routePlaces l) (wayRoutes w) (inr k))) (λ i k. same i (among-append i (innerPlaces l) (wayInners w) (inr k)))
+        (e (λ p. omega (arith, laid .jointFirst c j))) (h .4) in
         let x = holds-frame L c ws zs (leftAt L c ws j) l (λ i k. f i (among-append i (routePlaces l) (wayRoutes w) (inl k)))
         (λ i k. same i (among-append i (innerPlaces l) (wayInners w) (inl k))) (h .2) in
         (h .0, sym (s .mark) ∙ h .1, subst (λ (n : ℕ). Holds L c zs n l) left x, sym (v .1) ∙ h .3, v .0)

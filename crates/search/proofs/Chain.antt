@@ -86,7 +86,8 @@ module _ {P : Type 0} (L : Layout P) (c : ℕ) (ws : List ℕ) where
       carries = λ o q. b .carries o (skip o (n .carries o q));
     }
 
-    pub behind-last : (i : ℕ) (es : List (Entry (Seat P))) (b : Behind Q a i es) → nextAt L ws i ≡ 0 → ((o : A) → Q o (b .rest) → Q o (b .entry ∷ b .rest)) → (o : A) → Q o [] → Q o es
+    pub behind-last : (i : ℕ) (es : List (Entry (Seat P))) (b : Behind Q a i es) → nextAt L ws i ≡ 0 → ((o : A) → Q o (b .rest) → Q o (b .entry ∷ b .rest)) → (o : A) → Q o []
+        → Q o es
     behind-last i es b e skip o q = b .carries o (skip o (subst (Q o) (sym (chain-end a (nextAt L ws i) (b .rest) (b .hangs) e)) q))
 
     -- the length that was read at a place is the entry's

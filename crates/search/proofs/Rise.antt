@@ -54,7 +54,8 @@ module _ {P : Type 0} (L : Layout P) where
     pub good : Good (L .rules .width) (bare t)
     pub beside : WayHeld c ws w
 
-  pub part-held : (c : ℕ) (ws : List ℕ) (link : ℕ) (w : List (Step ℕ (Seat P))) (t : Seated P) → Holds L c ws link (plug w t) → Good (L .rules .width) (bare (plug w t)) → PartHeld c ws w t
+  pub part-held : (c : ℕ) (ws : List ℕ) (link : ℕ) (w : List (Step ℕ (Seat P))) (t : Seated P) → Holds L c ws link (plug w t) → Good (L .rules .width) (bare (plug w t))
+      → PartHeld c ws w t
   part-held c ws link [] t h g = record { link = link; there = h; good = g; beside = tt }
   part-held c ws link (wentLeft n b r ∷ w) t h g =
       let p = part-held c ws link w (node n b t r) h g in
@@ -73,14 +74,16 @@ module _ {P : Type 0} (L : Layout P) where
         ap (λ (y : ℕ). bit (L .rules .width) y d) i ∙ z
 
     -- the destination's bit at a step's place in the array is the side that the step took
-    at-step : (s : Step ℕ (Seat P)) (w : List (Step ℕ (Seat P))) → Kept inner (s ∷ w) → Follows (L .rules .width) d (s ∷ w) → StepHeld c ws s → Takes L c ws d (sideOf s) (getD inner (length w) 0)
+    at-step : (s : Step ℕ (Seat P)) (w : List (Step ℕ (Seat P))) → Kept inner (s ∷ w) → Follows (L .rules .width) d (s ∷ w) → StepHeld c ws s
+        → Takes L c ws d (sideOf s) (getD inner (length w) 0)
     at-step (wentLeft n b r) w k f h = mark-bit n b (length w) 0 (k .0) (h .0) (f .0)
     at-step (wentRight n b l) w k f h = mark-bit n b (length w) 1 (k .0) (h .0) (f .0)
 
     -- F is whatever passes over the steps that did not take side x
     module _ {B : Type 0} (F : List (Step ℕ (Seat P)) → B) (x : ℕ) (pass : (s : Step ℕ (Seat P)) (w : List (Step ℕ (Seat P))) → (sideOf s ≡ x → ⊥) → F (s ∷ w) ≡ F w) where
       -- where no level took it, F passes over all
-      pub rise-top : (w : List (Step ℕ (Seat P))) → Kept inner w → Follows (L .rules .width) d w → WayHeld c ws w → ((m : ℕ) → m < length w → Takes L c ws d x (getD inner m 0) → ⊥) → F w ≡ F []
+      pub rise-top : (w : List (Step ℕ (Seat P))) → Kept inner w → Follows (L .rules .width) d w → WayHeld c ws w → ((m : ℕ) → m < length w → Takes L c ws d x (getD inner m 0) → ⊥)
+          → F w ≡ F []
       rise-top [] k f h n = refl
       rise-top (s ∷ w) k f h n =
           pass s w (λ e. n (length w) (omega arith) (subst (λ (y : ℕ). Takes L c ws d y (getD inner (length w) 0)) e (at-step s w k f (h .0))))
@@ -101,7 +104,8 @@ module _ {P : Type 0} (L : Layout P) where
           → ((m : ℕ) → level < m → m < length w → Takes L c ws d x (getD inner m 0) → ⊥) → Risen w level
       rise-at [] level k f h l g n = absurd (omega arith)
       rise-at (s ∷ w) level k f h l g n =
-          ⊎-elim here (λ e. past e (rise-at w level (kept-tail inner s w k) (follows-tail (L .rules .width) d s w f) (h .1) (omega arith) g (λ m y z. n m y (omega arith)))) (eq-or-ne level (length w))
+          ⊎-elim here (λ e. past e (rise-at w level (kept-tail inner s w k) (follows-tail (L .rules .width) d s w f) (h .1) (omega arith) g (λ m y z. n m y (omega arith))))
+          (eq-or-ne level (length w))
         where
           here : level ≡ length w → Risen (s ∷ w) level
           here e = record {

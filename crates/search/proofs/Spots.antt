@@ -102,7 +102,8 @@ module _ {P : Type 0} (L : Layout P) where
 
   module _ (c : ℕ) (ws : List ℕ) (p : Prefix) (inner : List ℕ) (deep : ℕ) (stop : end.End) (ways : Ways L c ws (p .address) inner deep stop) where
     -- the prefix is in the leaf that the way leads to, or nowhere
-    find-led : (t : Seated P) (g : Good (L .rules .width) (bare t)) (l : Led L c ws (p .address) inner deep stop t) → find p (routes (bare t)) ≡ seek (same p) (hung (l .address) (bareEntries (l .entry ∷ l .rest)))
+    find-led : (t : Seated P) (g : Good (L .rules .width) (bare t)) (l : Led L c ws (p .address) inner deep stop t)
+        → find p (routes (bare t)) ≡ seek (same p) (hung (l .address) (bareEntries (l .entry ∷ l .rest)))
     find-led t g l =
         let w = bareWay (l .way) in
         let part : Tree ℕ P = leaf (l .address) (bareEntries (l .entry ∷ l .rest)) in
@@ -146,7 +147,8 @@ module _ {P : Type 0} (L : Layout P) where
   root-spotted c ws p x f none h g = subst (λ (y : Spot). Spotted L ws [] y none) (sym (f .empty h)) tt
   root-spotted c ws p x f (some t) h g = f .exact t h g
 
-  pub means-spotted : (c : ℕ) (ws : List ℕ) (p : Prefix) (x : Spot) → Finds L c ws p x → (s : State P) (m : Means L ws s) → s .capacity ≡ c → Spotted L ws (routesUsed (m .tree)) x (find p (s .routes))
+  pub means-spotted : (c : ℕ) (ws : List ℕ) (p : Prefix) (x : Spot) → Finds L c ws p x → (s : State P) (m : Means L ws s) → s .capacity ≡ c
+      → Spotted L ws (routesUsed (m .tree)) x (find p (s .routes))
   means-spotted c ws p x f s m e =
       subst (λ (l : List (Route P)). Spotted L ws (routesUsed (m .tree)) x (find p l)) (m .routesThere)
       (root-spotted c ws p x f (m .tree) (subst (λ (n : ℕ). HoldsRoot L n ws (rootIn ws) (m .tree)) e (m .holds)) (root-obeys-good (L .rules .width) (bareRoot (m .tree)) (m .obeys)))

@@ -131,7 +131,9 @@ module _ {P : Type 0} (L : Layout P) where
         } in
         record {
           holds = (e, f .inPool, back, f .leftFine .holds, f .rightFine .holds);
-          form = good-obeys (L .rules .width) (node j b (bare l) (bare r)) (joint, obeys-good (L .rules .width) (bare l) (f .leftFine .form), obeys-good (L .rules .width) (bare r) (f .rightFine .form));
+          form =
+              good-obeys (L .rules .width) (node j b (bare l) (bare r))
+              (joint, obeys-good (L .rules .width) (bare l) (f .leftFine .form), obeys-good (L .rules .width) (bare r) (f .rightFine .form));
           past = omega (arith, mark, f .later);
           obey = obey-append (routes (bare l)) (routes (bare r)) (f .leftFine .obey) (f .rightFine .obey);
         }
@@ -139,7 +141,8 @@ module _ {P : Type 0} (L : Layout P) where
   -- ---- both sides together
 
   -- the two ends of a side decide for all of it
-  ends : (k n least greatest : ℕ) (t : Tree ℕ P) → Spans least greatest t → first (L .rules .width) k least ≡ n → first (L .rules .width) k greatest ≡ n → All (λ x. first (L .rules .width) k x ≡ n) t
+  ends : (k n least greatest : ℕ) (t : Tree ℕ P) → Spans least greatest t → first (L .rules .width) k least ≡ n → first (L .rules .width) k greatest ≡ n
+      → All (λ x. first (L .rules .width) k x ≡ n) t
   ends k n least greatest t s p q =
       under-all _ t (λ x u. let w = s .between x u in omega (arith, p, q, first-mono (L .rules .width) k least x (w .0), first-mono (L .rules .width) k x greatest (w .1)))
 
@@ -204,8 +207,12 @@ module _ {P : Type 0} (L : Layout P) where
           let back = sym (s .markThere) in
           let same-left = holds-unique L c ws (leftAt L c ws j) l (x .0) (w .leftFine .holds) (subst (λ (z : ℕ). Holds L c ws z (x .0)) (s .leftThere) (x .1 .holds)) in
           let same-right = holds-unique L c ws (rightAt L c ws j) r (y .0) (w .rightFine .holds) (subst (λ (z : ℕ). Holds L c ws z (y .0)) (s .rightThere) (y .1 .holds)) in
-          let u = subst (λ (m : ℕ). All (λ z. first (L .rules .width) m z ≡ 2 * w .value) (bare (x .0))) back (subst (λ (z : Seated P). All (λ q. first (L .rules .width) (markAt L c ws j) q ≡ 2 * w .value) (bare z)) same-left (w .left)) in
-          let v = subst (λ (m : ℕ). All (λ z. first (L .rules .width) m z ≡ 2 * w .value + 1) (bare (y .0))) back (subst (λ (z : Seated P). All (λ q. first (L .rules .width) (markAt L c ws j) q ≡ 2 * w .value + 1) (bare z)) same-right (w .right)) in
+          let u =
+          subst (λ (m : ℕ). All (λ z. first (L .rules .width) m z ≡ 2 * w .value) (bare (x .0))) back
+          (subst (λ (z : Seated P). All (λ q. first (L .rules .width) (markAt L c ws j) q ≡ 2 * w .value) (bare z)) same-left (w .left)) in
+          let v =
+          subst (λ (m : ℕ). All (λ z. first (L .rules .width) m z ≡ 2 * w .value + 1) (bare (y .0))) back
+          (subst (λ (z : Seated P). All (λ q. first (L .rules .width) (markAt L c ws j) q ≡ 2 * w .value + 1) (bare z)) same-right (w .right)) in
           n (w .value) (record {
             leftLeast = all-under _ l₀ (bare (x .0)) u (x .2 .leastThere);
             leftGreatest = all-under _ l₁ (bare (x .0)) u (x .2 .greatestThere);

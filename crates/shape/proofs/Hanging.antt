@@ -149,7 +149,8 @@ module _ {P : Type 0} (L : Layout P) where
         go [] k = n (k .chain)
         go (e ∷ es) k = f (e .payload .place) (first-fine link bound e es k)
 
-    pub along-end : (start link bound passed : ℕ) → link ≡ 0 → Along start link bound passed → (fs : List (Entry (Seat P))) × Hangs c ws a start (suc (L .rules .width)) fs × (passed ≡ length fs)
+    pub along-end : (start link bound passed : ℕ) → link ≡ 0 → Along start link bound passed
+        → (fs : List (Entry (Seat P))) × Hangs c ws a start (suc (L .rules .width)) fs × (passed ≡ length fs)
     along-end start link bound passed e w =
         let (fs, h, d) = w .forth [] (record { chain = e; shorter = tt; falls = tt; obey = tt }) in
         (fs, h, omega (arith, d))

@@ -79,14 +79,16 @@ module _ {P : Type 0} (L : Layout P) where
   pass-right (wentRight n b l) w f = refl
 
   module _ (c : ℕ) (ws : List ℕ) (d : ℕ) (inner : List ℕ) (level num : ℕ) (val : Value P) where
-    at-right : (k : ℕ) (s : Step ℕ (Seat P)) (w : List (Step ℕ (Seat P))) → sideOf s ≡ 0 → k ≡ length w → Kept inner (s ∷ w) → WayHeld L c ws (s ∷ w) → Fronts L c ws (rightAt L c ws (getD inner k 0)) num val
+    at-right : (k : ℕ) (s : Step ℕ (Seat P)) (w : List (Step ℕ (Seat P))) → sideOf s ≡ 0 → k ≡ length w → Kept inner (s ∷ w) → WayHeld L c ws (s ∷ w)
+        → Fronts L c ws (rightAt L c ws (getD inner k 0)) num val
         → Says num val 14 (firstOf (rightOf (s ∷ w)))
     at-right k (wentLeft n b x) w e l q h f =
         let there = subst (λ (y : ℕ). Holds L c ws (rightAt L c ws y) x) (sym (ap (λ (y : ℕ). getD inner y 0) l ∙ q .0)) (h .0 .1) in
         subst (Says num val 14) (sym (first-append (routes (bare x)) (later (bareWay w)) (routes-some (L .rules .width) (bare x) (h .0 .2)))) (f .exact x there (h .0 .2))
     at-right k (wentRight n b x) w e l q h f = absurd (omega arith)
 
-    pub right-exact : RightSide L c ws d inner level num val → (w : List (Step ℕ (Seat P))) → level ≡ length w → Kept inner w → Follows (L .rules .width) d w → WayHeld L c ws w → Says num val 14 (firstOf (later (bareWay w)))
+    pub right-exact : RightSide L c ws d inner level num val → (w : List (Step ℕ (Seat P))) → level ≡ length w → Kept inner w → Follows (L .rules .width) d w → WayHeld L c ws w
+        → Says num val 14 (firstOf (later (bareWay w)))
     right-exact (inl (k, s, f)) w l q o h =
         let v = rise-at L c ws d inner rightOf 0 pass-right w k q o h (omega (arith, s .0)) (s .1) (λ m x y. s .2 m x (omega arith)) in
         subst (λ (z : List (Route P)). Says num val 14 (firstOf z)) (sym (v .sum)) (at-right k (v .step) (v .above) (v .took) (v .steps) (v .places) (v .beside) f)

@@ -66,7 +66,8 @@ module _ {P : Type 0} (L : Layout P) where
     whole-held : (t : Seated P) (l : Led L c ws (p .address) inner deep stop t) → Holds L c ws (rootIn ws) t → Holds L c ws (rootIn ws) (plug (l .way) (leaf (l .address) (l .entry ∷ l .rest)))
     whole-held t l h = subst (Holds L c ws (rootIn ws)) (sym (l .whole)) h
 
-    whole-good : (t : Seated P) (l : Led L c ws (p .address) inner deep stop t) → Good (L .rules .width) (bare t) → Good (L .rules .width) (bare (plug (l .way) (leaf (l .address) (l .entry ∷ l .rest))))
+    whole-good : (t : Seated P) (l : Led L c ws (p .address) inner deep stop t) → Good (L .rules .width) (bare t)
+        → Good (L .rules .width) (bare (plug (l .way) (leaf (l .address) (l .entry ∷ l .rest))))
     whole-good t l g = subst (λ (x : Seated P). Good (L .rules .width) (bare x)) (sym (l .whole)) g
 
     -- ---- the address has a leaf
@@ -78,7 +79,8 @@ module _ {P : Type 0} (L : Layout P) where
     abbrev rightOf : (t : Seated P) → Led L c ws (p .address) inner deep stop t → Option (Route P)
     rightOf t l = firstOf (later (bareWay (l .way)))
 
-    own-next : Part (L .rules .width) (p .address) (heldPrefix L ws (i .0) .address) (L .rules .width) → (t : Seated P) (g : Good (L .rules .width) (bare t)) (l : Led L c ws (p .address) inner deep stop t)
+    own-next : Part (L .rules .width) (p .address) (heldPrefix L ws (i .0) .address) (L .rules .width)
+        → (t : Seated P) (g : Good (L .rules .width) (bare t)) (l : Led L c ws (p .address) inner deep stop t)
         → nextAfter p (routes (bare t)) ≡ orElse (ownOf t l) (rightOf t l)
     own-next part t g l =
         let own : p .address ≡ l .address = part-whole (L .rules .width) (p .address) (heldPrefix L ws (i .0) .address) part ∙ read-address t l in
@@ -144,7 +146,8 @@ module _ {P : Type 0} (L : Layout P) where
           let x = p .address in
           let a = l .address in
           let es = l .entry ∷ l .rest in
-          let apart : bit (L .rules .width) k x ≡ bit (L .rules .width) k a → ⊥ = subst (λ (y : ℕ). bit (L .rules .width) k x ≡ bit (L .rules .width) k y → ⊥) (read-address t l) (split .apart below) in
+          let apart : bit (L .rules .width) k x ≡ bit (L .rules .width) k a → ⊥ =
+          subst (λ (y : ℕ). bit (L .rules .width) k x ≡ bit (L .rules .width) k y → ⊥) (read-address t l) (split .apart below) in
           let shared : first (L .rules .width) k x ≡ first (L .rules .width) k a = split .shared ∙ ap (first (L .rules .width) k) (read-address t l) in
           let hw = whole-held t l h in
           let gw = whole-good t l g in
@@ -165,7 +168,9 @@ module _ {P : Type 0} (L : Layout P) where
             near = v .near;
             shared = shared;
             apart = apart;
-            next = ap (λ (y : Tree ℕ P). nextAfter p (routes y)) b ∙ next-around (L .rules .width) p a (bareWay (v .upper)) (bare (v .part)) (subst (Good (L .rules .width)) b g) (v .under) shares;
+            next =
+                ap (λ (y : Tree ℕ P). nextAfter p (routes y)) b
+                ∙ next-around (L .rules .width) p a (bareWay (v .upper)) (bare (v .part)) (subst (Good (L .rules .width)) b g) (v .under) shares;
             right = λ num val f. right-exact L c ws x inner level num val f (v .upper) (v .steps) (v .places) (v .follows) (held .beside);
             there = λ link w. part-there t l (v .part) (held .link) (held .there) link (λ z. v .same (z ∙ long)) (λ z. v .named (omega (arith, rejoined .within))) w;
           }
@@ -215,7 +220,8 @@ module _ {P : Type 0} (L : Layout P) where
   -- ---- in the whole pool
 
   module _ (c : ℕ) (ws : List ℕ) (p : Prefix) (inner : List ℕ) (deep : ℕ) (stop : end.End) (ways : Ways L c ws (p .address) inner deep stop) where
-    pub nexts-leaf : (i : Place) (k n : ℕ) (v : Value P) → stop ≡ end.End.Leaf i → Part (L .rules .width) (p .address) (heldPrefix L ws (i .0) .address) k → Goes L c ws p (i .0) k n v → Nexts L c ws p n v
+    pub nexts-leaf : (i : Place) (k n : ℕ) (v : Value P) → stop ≡ end.End.Leaf i → Part (L .rules .width) (p .address) (heldPrefix L ws (i .0) .address) k
+        → Goes L c ws p (i .0) k n v → Nexts L c ws p n v
     nexts-leaf i k n v e split s = record { loose = s .loose; exact = go }
       where
         go : (t : Root ℕ (Seat P)) → HoldsRoot L c ws (rootIn ws) t → RootGood (L .rules .width) (bareRoot t) → Says n v 14 (nextAfter p (rootRoutes (bareRoot t)))

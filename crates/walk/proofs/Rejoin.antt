@@ -58,7 +58,8 @@ module _ {P : Type 0} (L : Layout P) where
     past b z h p q = let ne : k ≡ b → ⊥ = λ e. apart (subst (λ (y : ℕ). bit (L .rules .width) y x ≡ bit (L .rules .width) y a) (sym e) (p ∙ sym q)) in omega arith
 
     -- so where it tests a later bit, all that stands there is near
-    join-near : (s : Step ℕ (Seat P)) (w : List (Step ℕ (Seat P))) (t : Seated P) → Good (L .rules .width) (bare (join s t)) → Under a (bare t) → Follows (L .rules .width) x (s ∷ w) → StepHeld L c ws s → Kept inner (s ∷ w)
+    join-near : (s : Step ℕ (Seat P)) (w : List (Step ℕ (Seat P))) (t : Seated P) → Good (L .rules .width) (bare (join s t)) → Under a (bare t)
+        → Follows (L .rules .width) x (s ∷ w) → StepHeld L c ws s → Kept inner (s ∷ w)
         → k < markAt L c ws (getD inner (length w) 0) → All Near (bare (join s t)) × Under a (bare (join s t)) × Named (getD inner (length w) 0) (join s t)
     join-near (wentLeft n b r) w t g u f h q m =
         let e : markAt L c ws (getD inner (length w) 0) ≡ suc b = ap (markAt L c ws) (q .0) ∙ h .0 in
@@ -82,7 +83,8 @@ module _ {P : Type 0} (L : Layout P) where
       pub same : level ≡ length w → part ≡ s
       pub named : level < length w → Named (getD inner level 0) part
 
-    pub rejoins : (w : List (Step ℕ (Seat P))) (s : Seated P) (level link : ℕ) → Holds L c ws link (plug w s) → Good (L .rules .width) (bare (plug w s)) → Kept inner w → Follows (L .rules .width) x w → level ≤ length w
+    pub rejoins : (w : List (Step ℕ (Seat P))) (s : Seated P) (level link : ℕ) → Holds L c ws link (plug w s) → Good (L .rules .width) (bare (plug w s)) → Kept inner w
+        → Follows (L .rules .width) x w → level ≤ length w
         → ((m : ℕ) → level ≤ m → m < length w → k < markAt L c ws (getD inner m 0)) → All Near (bare s) → Under a (bare s) → Rejoins w s level
     rejoins [] s level link h g q f l n v u = record {
       upper = [];
@@ -100,7 +102,9 @@ module _ {P : Type 0} (L : Layout P) where
         ⊎-elim here
         (λ e. let less : level ≤ length w = omega arith in
         let z = join-near t w s (good e) u f (beside .0) q (n (length w) less (omega arith)) in
-        more less (z .2) (rejoins w (join t s) level link (subst (Holds L c ws link) (plug-join t w s) h) (subst (λ (y : Seated P). Good (L .rules .width) (bare y)) (plug-join t w s) g) (kept-tail inner t w q)
+        more less (z .2)
+        (rejoins w (join t s) level link (subst (Holds L c ws link) (plug-join t w s) h) (subst (λ (y : Seated P). Good (L .rules .width) (bare y)) (plug-join t w s) g)
+        (kept-tail inner t w q)
         (follows-tail (L .rules .width) x t w f) less (λ m i j. n m i (omega arith)) (z .0) (z .1)))
         (eq-or-ne level (length (t ∷ w)))
       where
@@ -135,11 +139,13 @@ module _ {P : Type 0} (L : Layout P) where
           near = r .near;
           under = r .under;
           same = λ e. absurd (omega arith);
-          named = λ e. ⊎-elim (λ o. subst (λ (y : ℕ). Named (getD inner y 0) (r .part)) (sym o) (subst (Named (getD inner (length w) 0)) (sym (r .same o)) name)) (λ o. r .named (omega arith)) (eq-or-ne level (length w));
+          named =
+              λ e. ⊎-elim (λ o. subst (λ (y : ℕ). Named (getD inner y 0) (r .part)) (sym o) (subst (Named (getD inner (length w) 0)) (sym (r .same o)) name)) (λ o. r .named (omega arith)) (eq-or-ne level (length w));
         }
 
     -- above it the address shares each bit with the leaf
-    pub rejoined-shares : (w : List (Step ℕ (Seat P))) (t : Seated P) (link level : ℕ) → Holds L c ws link (plug w t) → Good (L .rules .width) (bare (plug w t)) → Kept inner w → level ≡ length w
+    pub rejoined-shares : (w : List (Step ℕ (Seat P))) (t : Seated P) (link level : ℕ) → Holds L c ws link (plug w t) → Good (L .rules .width) (bare (plug w t)) → Kept inner w
+        → level ≡ length w
         → (0 < level → markAt L c ws (getD inner (level - 1) 0) ≤ k) → first (L .rules .width) k x ≡ first (L .rules .width) k a → Shares (L .rules .width) x a (bareWay w)
     rejoined-shares [] t link level h g q l m e = tt
     rejoined-shares (wentLeft n b r ∷ w) t link level h g q l m e =
