@@ -48,7 +48,8 @@ shift-left xs ys zs a =
     }
 
 -- and with one place in front of both
-shift-head : (j : ℕ) (xs zs ys : List ℕ) → Asunder (j ∷ xs) ys → Asunder zs (xs ++ ys) → ((i : ℕ) → Among i zs → Among i xs → ⊥) → (Among j zs → ⊥) → Asunder zs (j ∷ (xs ++ ys))
+shift-head : (j : ℕ) (xs zs ys : List ℕ) → Asunder (j ∷ xs) ys → Asunder zs (xs ++ ys) → ((i : ℕ) → Among i zs → Among i xs → ⊥) → (Among j zs → ⊥)
+    → Asunder zs (j ∷ (xs ++ ys))
 shift-head j xs zs ys a b f g = record {
   first = b .first;
   second = (λ h. ⊎-elim (λ u. a .first .0 u) (λ u. a .apart j (inl refl) u) (append-among j xs ys h), b .second);

@@ -98,7 +98,8 @@ module _ {P : Type 0} (L : Layout P) (laid : Laid L) where
     rehung xs off = rehung-touch L laid (s .capacity) ws (x .payload .place) cell xs small clear off (h .way) (p .address) (h .longer) (x ∷ []) (h .shorter) (h .cellIs) (λ y k n f. n (inl f))
 
     -- a place in use after the writes, other than the one that is touched, is in the leaf without it or on the way
-    kept : (xs : List Write) → ((y : ℕ) → OffSeat L laid y (x .payload .place) → (y ≡ cell → ⊥) → (y ≡ 1 → ⊥) → Off y xs) → (y : ℕ) → y < s .capacity → (y ≡ x .payload .place → ⊥)
+    kept : (xs : List Write) → ((y : ℕ) → OffSeat L laid y (x .payload .place) → (y ≡ cell → ⊥) → (y ≡ 1 → ⊥) → Off y xs) → (y : ℕ) → y < s .capacity
+        → (y ≡ x .payload .place → ⊥)
         → 1 ≤ kindAt L (writes xs ws) y → Among y (chainPlaces (h .longer ++ h .shorter)) ⊎ Among y (wayRoutes (h .way))
     kept xs off y m n u =
         let was = st .routesUsed y m (subst (λ (z : ℕ). 1 ≤ z) (sym (route-touch L laid (s .capacity) ws (x .payload .place) cell xs small clear off y m n .kind)) u) in

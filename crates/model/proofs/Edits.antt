@@ -129,7 +129,8 @@ module _ {P : Type 0} where
       other : same p (x .prefix) ≡ false → q ≡ x → q .prefix ≡ p → ⊥
       other t e f = true≢false (sym (true-same p (x .prefix) (sym f ∙ ap (λ (z : Route P). z .prefix) e)) ∙ t)
 
-      out : same p (x .prefix) ≡ false → Held q (remove p xs) ↔ (Held q xs × (q .prefix ≡ p → ⊥)) → (q ≡ x) ⊎ Held q (remove p xs) → ((q ≡ x) ⊎ Held q xs) × (q .prefix ≡ p → ⊥)
+      out : same p (x .prefix) ≡ false → Held q (remove p xs) ↔ (Held q xs × (q .prefix ≡ p → ⊥)) → (q ≡ x) ⊎ Held q (remove p xs)
+          → ((q ≡ x) ⊎ Held q xs) × (q .prefix ≡ p → ⊥)
       out t ih (inl e) = (inl e, other t e)
       out t ih (inr h) = (inr (ih .0 h .0), ih .0 h .1)
 
@@ -137,7 +138,8 @@ module _ {P : Type 0} where
       back ih (inl e) f = inl e
       back ih (inr h) f = inr (ih .1 (h, f))
 
-      go : (b : Bool) → same p (x .prefix) ≡ b → Held q (remove p xs) ↔ (Held q xs × (q .prefix ≡ p → ⊥)) → Held q (remove p (x ∷ xs)) ↔ (Held q (x ∷ xs) × (q .prefix ≡ p → ⊥))
+      go : (b : Bool) → same p (x .prefix) ≡ b → Held q (remove p xs) ↔ (Held q xs × (q .prefix ≡ p → ⊥))
+          → Held q (remove p (x ∷ xs)) ↔ (Held q (x ∷ xs) × (q .prefix ≡ p → ⊥))
       go true t ih = rw t (λ h. (inr h, past t h), λ w. rest t (w .0) (w .1))
       go false t ih = rw t (out t ih, λ w. back ih (w .0) (w .1))
 

@@ -30,7 +30,8 @@ use Rattle.plan.proofs.Lengths.{found-has}
 
 module _ {P : Type 0} (L : Layout P) where
   -- where there is no root the way ends nowhere
-  pub rooted : (c : ℕ) (ws : List ℕ) (d : ℕ) (inner : List ℕ) (deep : ℕ) (stop : end.End) (i : Place) → Ways L c ws d inner deep stop → stop ≡ end.End.Leaf i → rootIn ws ≡ 0 → ⊥
+  pub rooted : (c : ℕ) (ws : List ℕ) (d : ℕ) (inner : List ℕ) (deep : ℕ) (stop : end.End) (i : Place) → Ways L c ws d inner deep stop → stop ≡ end.End.Leaf i → rootIn ws ≡ 0
+      → ⊥
   rooted c ws d inner deep stop i ways e z = let f = ways .empty z in let y : _≡_ {A = ℕ} 0 1 = cc in omega arith
 
 module _ {P : Type 0} (L : Layout P) (laid : Laid L) where

@@ -85,7 +85,8 @@ module _ {P : Type 0} (L : Layout P) (laid : Laid L) where
     pub some-others : (cell ≡ from → ⊥) ⊎ (nextAt L ws j ≡ 0 → ⊥) → v .longer ++ v .shorter ≡ [] → ⊥
     some-others = go (v .longer) (v .shorter) (v .cellIs) behind
       where
-        go : (xs ys : List (Entry (Seat P))) → endCell L from xs ≡ cell → Chain L c ws a (nextAt L ws j) ys → (cell ≡ from → ⊥) ⊎ (nextAt L ws j ≡ 0 → ⊥) → xs ++ ys ≡ [] → ⊥
+        go : (xs ys : List (Entry (Seat P))) → endCell L from xs ≡ cell → Chain L c ws a (nextAt L ws j) ys → (cell ≡ from → ⊥) ⊎ (nextAt L ws j ≡ 0 → ⊥)
+            → xs ++ ys ≡ [] → ⊥
         go [] [] e k (inl o) z = o (sym e)
         go [] [] e k (inr o) z = o k
         go [] (y ∷ ys) e k o z = let f : _≡_ {A = ℕ} 0 1 = cc in omega arith
