@@ -1,17 +1,68 @@
-use mathlib.Core.Path.{refl, sym, subst, _∙_}
+-- `tested` says whether the pool is sound; where it is not, `no-unsound`. The tests then go in the order of the numbers:
+-- a test that fails is the law `add-no-K` of its line, from the tests passed before it, and past the last stands `add-goes`.
+use Prim.Native.Nat.{ℕ}
+use mathlib.Core.Path.{_≡_, refl, sym, subst, _∙_}
+use mathlib.Core.Bool.{true, false}
+use mathlib.Core.List.{List}
 use native.Mathlib.Omega.{arith}
 use borrow.Author.Tests.{not-true, not-false}
 use borrow.Author.Needs.{needs}
-use Rattle.model.specs.Call.{add}
+use Rattle.model.specs.Prefix.{wellFormed}
+use Rattle.model.specs.Routes.{Route, holds}
+use Rattle.model.specs.Ipv4.{Hop}
+use Rattle.model.specs.Call.{add, trialFull}
 use Rattle.route.specs.Means.{routeOf}
 use Rattle.pool.specs.Ipv4.{ipv4}
 use Rattle.promise.specs.Trees.{tree}
 use Rattle.verdict.specs.Own.{TestedRight}
+use Rattle.verdict.specs.declared.Verdict.the-variants.{Sound}
 use Rattle.may.specs.May.{Tells}
 use Rattle.verdict.proofs.Lent.{sound-own}
 use Rattle.may.proofs.Mays.{add-goes, add-no-1, add-no-2, add-no-3, add-no-4, add-no-5, add-no-6, no-unsound}
 use Rattle.may.proofs.may_add.Statement.{statement}
 use Rattle.may.proofs.may_add.Tie as tie
+
+-- Where the pool is sound: its words, the route that is asked for, and the state that the words mean.
+abbrev words : tie.After-capacity → List ℕ
+words c = c .before .before .before .before .args .pool .now
+
+abbrev asked : tie.After-capacity → Route Hop
+asked c = routeOf (c .before .before .before .before .args .route)
+
+sound : (c : tie.After-capacity) → TestedRight (tree ipv4) (words c) (Sound (c .capacity .given .0 .0))
+sound c = subst (TestedRight (tree ipv4) (words c)) (c .capacity .given .1) (c .before .before .tested .ensures)
+
+-- That place, from the places where a test was passed.
+abbrev told1 : tie.Else1 → tie.After-capacity
+told1 c = c .before .before .before .before
+
+abbrev told2 : tie.Else2 → tie.After-capacity
+told2 c = told1 (c .before .before)
+
+abbrev told3 : tie.Else3 → tie.After-capacity
+told3 c = told2 (c .before .before)
+
+abbrev told4 : tie.Else4 → tie.After-capacity
+told4 c = told3 (c .before .before)
+
+abbrev told5 : tie.Else5 → tie.After-capacity
+told5 c = told4 (c .before .before)
+
+-- What each test says where it was passed.
+formed : (c : tie.Else1) → wellFormed 32 (asked (told1 c) .prefix) ≡ true
+formed c = sym (c .before .well-formed .ensures) ∙ not-false _ (c .if1 .left)
+
+holdable : (c : tie.Else2) → ipv4 .rules .mayHold (asked (told2 c) .prefix) ≡ true
+holdable c = sym (c .before .may-be-held .ensures) ∙ not-false _ (c .if2 .left)
+
+good : (c : tie.Else3) → ipv4 .rules .goodHop (asked (told3 c) .prefix) (asked (told3 c) .payload) ≡ true
+good c = sym (c .before .is-good .ensures) ∙ not-false _ (c .if3 .left)
+
+absent : (c : tie.Else4) → Tells (tree ipv4) (words (told4 c)) (λ s. holds (asked (told4 c) .prefix) (s .routes)) false
+absent c = subst (Tells (tree ipv4) _ _) (c .if4 .left) (c .before .holds .ensures)
+
+roomy : (c : tie.Else5) → Tells (tree ipv4) (words (told5 c)) (trialFull (ipv4 .rules)) false
+roomy c = subst (Tells (tree ipv4) _ _) (c .if5 .left) (c .before .trial-full .ensures)
 
 tested-requires : tie.Need-tested-requires
 tested-requires c κs = search needs
@@ -23,60 +74,97 @@ enum-told : tie.Need-enum-told
 enum-told c = search needs
 
 returns : tie.Need-returns
-returns c = no-unsound (tree ipv4) (add (routeOf (c .before .before .before .before .args .route))) _ refl (subst (TestedRight (tree ipv4) (c .before .before .before .before .args .pool .now)) (c .enum-told .given .1) (c .before .before .tested .ensures))
+returns c =
+    let args = c .before .before .before .before .args in
+    let unsound = subst (TestedRight (tree ipv4) (args .pool .now)) (c .enum-told .given .1) (c .before .before .tested .ensures) in
+    no-unsound (tree ipv4) (add (routeOf (args .route))) _ refl unsound
 
 well-formed-requires : tie.Need-well-formed-requires
 well-formed-requires c κs = search needs
 
 returns-2 : tie.Need-returns-2
 returns-2 c =
-    let v = subst (TestedRight (tree ipv4) (c .before .before .before .before .before .before .before .before .args .pool .now)) (c .before .before .before .before .capacity .given .1) (c .before .before .before .before .before .before .tested .ensures) in
-    add-no-1 (tree ipv4) _ (v .0) (v .1) (routeOf (c .before .before .before .before .before .before .before .before .args .route)) (sym (c .before .well-formed .ensures) ∙ not-true _ (c .if1 .taken))
+    let told = c .before .before .before .before in
+    let state = sound told in
+    add-no-1 (tree ipv4) _ (state .0) (state .1) (asked told)
+    (sym (c .before .well-formed .ensures) ∙ not-true _ (c .if1 .taken))
 
 may-be-held-requires : tie.Need-may-be-held-requires
 may-be-held-requires c κs = search needs
 
 returns-3 : tie.Need-returns-3
 returns-3 c =
-    let v = subst (TestedRight (tree ipv4) (c .before .before .before .before .before .before .before .before .before .before .args .pool .now)) (c .before .before .before .before .before .before .capacity .given .1) (c .before .before .before .before .before .before .before .before .tested .ensures) in
-    add-no-2 (tree ipv4) _ (v .0) (v .1) (routeOf (c .before .before .before .before .before .before .before .before .before .before .args .route)) (sym (c .before .before .before .well-formed .ensures) ∙ not-false _ (c .before .before .if1 .left)) (sym (c .before .may-be-held .ensures) ∙ not-true _ (c .if2 .taken))
+    let else1 = c .before .before in
+    let told = told1 else1 in
+    let state = sound told in
+    add-no-2 (tree ipv4) _ (state .0) (state .1) (asked told) (formed else1)
+    (sym (c .before .may-be-held .ensures) ∙ not-true _ (c .if2 .taken))
 
 is-good-requires : tie.Need-is-good-requires
 is-good-requires c κs = search needs
 
 returns-4 : tie.Need-returns-4
 returns-4 c =
-    let v = subst (TestedRight (tree ipv4) (c .before .before .before .before .before .before .before .before .before .before .before .before .args .pool .now)) (c .before .before .before .before .before .before .before .before .capacity .given .1) (c .before .before .before .before .before .before .before .before .before .before .tested .ensures) in
-    add-no-3 (tree ipv4) _ (v .0) (v .1) (routeOf (c .before .before .before .before .before .before .before .before .before .before .before .before .args .route)) (sym (c .before .before .before .before .before .well-formed .ensures) ∙ not-false _ (c .before .before .before .before .if1 .left)) (sym (c .before .before .before .may-be-held .ensures) ∙ not-false _ (c .before .before .if2 .left)) (sym (c .before .is-good .ensures) ∙ not-true _ (c .if3 .taken))
+    let else2 = c .before .before in
+    let else1 = else2 .before .before in
+    let told = told2 else2 in
+    let state = sound told in
+    add-no-3 (tree ipv4) _ (state .0) (state .1) (asked told) (formed else1) (holdable else2)
+    (sym (c .before .is-good .ensures) ∙ not-true _ (c .if3 .taken))
 
 holds-requires : tie.Need-holds-requires
-holds-requires c κs = subst (TestedRight (tree ipv4) (c .before .before .before .before .before .before .before .before .before .before .before .before .args .pool .now)) (c .before .before .before .before .before .before .before .before .capacity .given .1) (c .before .before .before .before .before .before .before .before .before .before .tested .ensures)
+holds-requires c κs = sound (told3 c)
 
 returns-5 : tie.Need-returns-5
 returns-5 c =
-    let v = subst (TestedRight (tree ipv4) (c .before .before .before .before .before .before .before .before .before .before .before .before .before .before .args .pool .now)) (c .before .before .before .before .before .before .before .before .before .before .capacity .given .1) (c .before .before .before .before .before .before .before .before .before .before .before .before .tested .ensures) in
-    add-no-4 (tree ipv4) _ (v .0) (v .1) (routeOf (c .before .before .before .before .before .before .before .before .before .before .before .before .before .before .args .route)) (sym (c .before .before .before .before .before .before .before .well-formed .ensures) ∙ not-false _ (c .before .before .before .before .before .before .if1 .left)) (sym (c .before .before .before .before .before .may-be-held .ensures) ∙ not-false _ (c .before .before .before .before .if2 .left)) (sym (c .before .before .before .is-good .ensures) ∙ not-false _ (c .before .before .if3 .left)) (subst (Tells (tree ipv4) _ _) (c .if4 .taken) (c .before .holds .ensures))
+    let else3 = c .before .before in
+    let else2 = else3 .before .before in
+    let else1 = else2 .before .before in
+    let told = told3 else3 in
+    let state = sound told in
+    add-no-4 (tree ipv4) _ (state .0) (state .1) (asked told) (formed else1) (holdable else2) (good else3)
+    (subst (Tells (tree ipv4) _ _) (c .if4 .taken) (c .before .holds .ensures))
 
 trial-full-requires : tie.Need-trial-full-requires
-trial-full-requires c κs = let v = subst (TestedRight (tree ipv4) (c .before .before .before .before .before .before .before .before .before .before .before .before .before .before .args .pool .now)) (c .before .before .before .before .before .before .before .before .before .before .capacity .given .1) (c .before .before .before .before .before .before .before .before .before .before .before .before .tested .ensures) in omega (arith, sound-own ipv4 (c .before .before .before .before .before .before .before .before .before .before .before .before .before .before .args .pool .now) _ v .3)
+trial-full-requires c κs = omega (arith, sound-own ipv4 _ _ (sound (told4 c)) .3)
 
 returns-6 : tie.Need-returns-6
 returns-6 c =
-    let v = subst (TestedRight (tree ipv4) (c .before .before .before .before .before .before .before .before .before .before .before .before .before .before .before .before .args .pool .now)) (c .before .before .before .before .before .before .before .before .before .before .before .before .capacity .given .1) (c .before .before .before .before .before .before .before .before .before .before .before .before .before .before .tested .ensures) in
-    add-no-5 (tree ipv4) _ (v .0) (v .1) (routeOf (c .before .before .before .before .before .before .before .before .before .before .before .before .before .before .before .before .args .route)) (sym (c .before .before .before .before .before .before .before .before .before .well-formed .ensures) ∙ not-false _ (c .before .before .before .before .before .before .before .before .if1 .left)) (sym (c .before .before .before .before .before .before .before .may-be-held .ensures) ∙ not-false _ (c .before .before .before .before .before .before .if2 .left)) (sym (c .before .before .before .before .before .is-good .ensures) ∙ not-false _ (c .before .before .before .before .if3 .left)) (subst (Tells (tree ipv4) _ _) (c .before .before .if4 .left) (c .before .before .before .holds .ensures)) (subst (Tells (tree ipv4) _ _) (c .if5 .taken) (c .before .trial-full .ensures))
+    let else4 = c .before .before in
+    let else3 = else4 .before .before in
+    let else2 = else3 .before .before in
+    let else1 = else2 .before .before in
+    let told = told4 else4 in
+    let state = sound told in
+    add-no-5 (tree ipv4) _ (state .0) (state .1) (asked told) (formed else1) (holdable else2) (good else3) (absent else4)
+    (subst (Tells (tree ipv4) _ _) (c .if5 .taken) (c .before .trial-full .ensures))
 
 table-full-requires : tie.Need-table-full-requires
-table-full-requires c κs = let v = subst (TestedRight (tree ipv4) (c .before .before .before .before .before .before .before .before .before .before .before .before .before .before .before .before .args .pool .now)) (c .before .before .before .before .before .before .before .before .before .before .before .before .capacity .given .1) (c .before .before .before .before .before .before .before .before .before .before .before .before .before .before .tested .ensures) in omega (arith, sound-own ipv4 (c .before .before .before .before .before .before .before .before .before .before .before .before .before .before .before .before .args .pool .now) _ v .3)
+table-full-requires c κs = omega (arith, sound-own ipv4 _ _ (sound (told5 c)) .3)
 
 returns-7 : tie.Need-returns-7
 returns-7 c =
-    let v = subst (TestedRight (tree ipv4) (c .before .before .before .before .before .before .before .before .before .before .before .before .before .before .before .before .before .before .args .pool .now)) (c .before .before .before .before .before .before .before .before .before .before .before .before .before .before .capacity .given .1) (c .before .before .before .before .before .before .before .before .before .before .before .before .before .before .before .before .tested .ensures) in
-    add-no-6 (tree ipv4) _ (v .0) (v .1) (routeOf (c .before .before .before .before .before .before .before .before .before .before .before .before .before .before .before .before .before .before .args .route)) (sym (c .before .before .before .before .before .before .before .before .before .before .before .well-formed .ensures) ∙ not-false _ (c .before .before .before .before .before .before .before .before .before .before .if1 .left)) (sym (c .before .before .before .before .before .before .before .before .before .may-be-held .ensures) ∙ not-false _ (c .before .before .before .before .before .before .before .before .if2 .left)) (sym (c .before .before .before .before .before .before .before .is-good .ensures) ∙ not-false _ (c .before .before .before .before .before .before .if3 .left)) (subst (Tells (tree ipv4) _ _) (c .before .before .before .before .if4 .left) (c .before .before .before .before .before .holds .ensures)) (subst (Tells (tree ipv4) _ _) (c .before .before .if5 .left) (c .before .before .before .trial-full .ensures)) (subst (Tells (tree ipv4) _ _) (c .if6 .taken) (c .before .table-full .ensures))
+    let else5 = c .before .before in
+    let else4 = else5 .before .before in
+    let else3 = else4 .before .before in
+    let else2 = else3 .before .before in
+    let else1 = else2 .before .before in
+    let told = told5 else5 in
+    let state = sound told in
+    add-no-6 (tree ipv4) _ (state .0) (state .1) (asked told) (formed else1) (holdable else2) (good else3) (absent else4) (roomy else5)
+    (subst (Tells (tree ipv4) _ _) (c .if6 .taken) (c .before .table-full .ensures))
 
 returns-8 : tie.Need-returns-8
 returns-8 c =
-    let v = subst (TestedRight (tree ipv4) (c .before .before .before .before .before .before .before .before .before .before .before .before .before .before .before .before .before .before .args .pool .now)) (c .before .before .before .before .before .before .before .before .before .before .before .before .before .before .capacity .given .1) (c .before .before .before .before .before .before .before .before .before .before .before .before .before .before .before .before .tested .ensures) in
-    add-goes (tree ipv4) _ (v .0) (v .1) _ (routeOf (c .before .before .before .before .before .before .before .before .before .before .before .before .before .before .before .before .before .before .args .route)) (v .2) (sym (c .before .before .before .before .before .before .before .before .before .before .before .well-formed .ensures) ∙ not-false _ (c .before .before .before .before .before .before .before .before .before .before .if1 .left)) (sym (c .before .before .before .before .before .before .before .before .before .may-be-held .ensures) ∙ not-false _ (c .before .before .before .before .before .before .before .before .if2 .left)) (sym (c .before .before .before .before .before .before .before .is-good .ensures) ∙ not-false _ (c .before .before .before .before .before .before .if3 .left)) (subst (Tells (tree ipv4) _ _) (c .before .before .before .before .if4 .left) (c .before .before .before .before .before .holds .ensures)) (subst (Tells (tree ipv4) _ _) (c .before .before .if5 .left) (c .before .before .before .trial-full .ensures)) (subst (Tells (tree ipv4) _ _) (c .if6 .left) (c .before .table-full .ensures))
+    let else5 = c .before .before in
+    let else4 = else5 .before .before in
+    let else3 = else4 .before .before in
+    let else2 = else3 .before .before in
+    let else1 = else2 .before .before in
+    let told = told5 else5 in
+    let state = sound told in
+    add-goes (tree ipv4) _ (state .0) (state .1) _ (asked told) (state .2) (formed else1) (holdable else2) (good else3) (absent else4) (roomy else5)
+    (subst (Tells (tree ipv4) _ _) (c .if6 .left) (c .before .table-full .ensures))
 
 pub may-add-spec : {M : Type 1} → statement M
 may-add-spec =

@@ -1,17 +1,49 @@
-use mathlib.Core.Path.{refl, sym, subst, _∙_}
+-- `tested` says whether the pool is sound; where it is not, `no-unsound`. The tests then go in the order of the numbers:
+-- a test that fails is the law `delete-no-K` of its line, from the tests passed before it, and past the last stands `delete-goes`.
+use Prim.Native.Nat.{ℕ}
+use mathlib.Core.Path.{_≡_, refl, sym, subst, _∙_}
+use mathlib.Core.Bool.{true}
+use mathlib.Core.List.{List}
 use native.Mathlib.Omega.{arith}
 use borrow.Author.Tests.{not-true, not-false}
 use borrow.Author.Needs.{needs}
+use Rattle.model.specs.Prefix.{Prefix, wellFormed}
+use Rattle.model.specs.Routes.{holds}
 use Rattle.model.specs.Call.{delete}
 use Rattle.route.specs.Means.{prefixOf}
 use Rattle.pool.specs.Ipv4.{ipv4}
 use Rattle.promise.specs.Trees.{tree}
 use Rattle.verdict.specs.Own.{TestedRight}
+use Rattle.verdict.specs.declared.Verdict.the-variants.{Sound}
 use Rattle.may.specs.May.{Tells}
 use Rattle.verdict.proofs.Lent.{sound-own}
 use Rattle.may.proofs.Mays.{delete-goes, delete-no-1, delete-no-2, delete-no-3, no-unsound}
 use Rattle.may.proofs.may_delete.Statement.{statement}
 use Rattle.may.proofs.may_delete.Tie as tie
+
+-- Where the pool is sound: its words, the prefix that is asked for, and the state that the words mean.
+abbrev words : tie.After-capacity → List ℕ
+words c = c .before .before .before .before .args .pool .now
+
+abbrev asked : tie.After-capacity → Prefix
+asked c = prefixOf (c .before .before .before .before .args .prefix)
+
+sound : (c : tie.After-capacity) → TestedRight (tree ipv4) (words c) (Sound (c .capacity .given .0 .0))
+sound c = subst (TestedRight (tree ipv4) (words c)) (c .capacity .given .1) (c .before .before .tested .ensures)
+
+-- That place, from the places where a test was passed.
+abbrev told1 : tie.Else1 → tie.After-capacity
+told1 c = c .before .before .before
+
+abbrev told2 : tie.Else2 → tie.After-capacity
+told2 c = told1 (c .before .before)
+
+-- What each test says where it was passed.
+formed : (c : tie.Else1) → wellFormed 32 (asked (told1 c)) ≡ true
+formed c = sym (c .before .well-formed .ensures) ∙ not-false _ (c .if1 .left)
+
+held : (c : tie.Else2) → Tells (tree ipv4) (words (told2 c)) (λ s. holds (asked (told2 c)) (s .routes)) true
+held c = subst (Tells (tree ipv4) _ _) (not-false _ (c .if2 .left)) (c .before .holds .ensures)
 
 tested-requires : tie.Need-tested-requires
 tested-requires c κs = search needs
@@ -23,36 +55,52 @@ enum-told : tie.Need-enum-told
 enum-told c = search needs
 
 returns : tie.Need-returns
-returns c = no-unsound (tree ipv4) (delete (prefixOf (c .before .before .before .before .args .prefix))) _ refl (subst (TestedRight (tree ipv4) (c .before .before .before .before .args .pool .now)) (c .enum-told .given .1) (c .before .before .tested .ensures))
+returns c =
+    let args = c .before .before .before .before .args in
+    let unsound = subst (TestedRight (tree ipv4) (args .pool .now)) (c .enum-told .given .1) (c .before .before .tested .ensures) in
+    no-unsound (tree ipv4) (delete (prefixOf (args .prefix))) _ refl unsound
 
 well-formed-requires : tie.Need-well-formed-requires
 well-formed-requires c κs = search needs
 
 returns-2 : tie.Need-returns-2
 returns-2 c =
-    let v = subst (TestedRight (tree ipv4) (c .before .before .before .before .before .before .before .args .pool .now)) (c .before .before .before .capacity .given .1) (c .before .before .before .before .before .tested .ensures) in
-    delete-no-1 (tree ipv4) _ (v .0) (v .1) (prefixOf (c .before .before .before .before .before .before .before .args .prefix)) (sym (c .before .well-formed .ensures) ∙ not-true _ (c .if1 .taken))
+    let told = c .before .before .before in
+    let state = sound told in
+    delete-no-1 (tree ipv4) _ (state .0) (state .1) (asked told)
+    (sym (c .before .well-formed .ensures) ∙ not-true _ (c .if1 .taken))
 
 holds-requires : tie.Need-holds-requires
-holds-requires c κs = subst (TestedRight (tree ipv4) (c .before .before .before .before .before .before .before .args .pool .now)) (c .before .before .before .capacity .given .1) (c .before .before .before .before .before .tested .ensures)
+holds-requires c κs = sound (told1 c)
 
 returns-3 : tie.Need-returns-3
 returns-3 c =
-    let v = subst (TestedRight (tree ipv4) (c .before .before .before .before .before .before .before .before .before .args .pool .now)) (c .before .before .before .before .before .capacity .given .1) (c .before .before .before .before .before .before .before .tested .ensures) in
-    delete-no-2 (tree ipv4) _ (v .0) (v .1) (prefixOf (c .before .before .before .before .before .before .before .before .before .args .prefix)) (sym (c .before .before .before .well-formed .ensures) ∙ not-false _ (c .before .before .if1 .left)) (subst (Tells (tree ipv4) _ _) (not-true _ (c .if2 .taken)) (c .before .holds .ensures))
+    let else1 = c .before .before in
+    let told = told1 else1 in
+    let state = sound told in
+    delete-no-2 (tree ipv4) _ (state .0) (state .1) (asked told) (formed else1)
+    (subst (Tells (tree ipv4) _ _) (not-true _ (c .if2 .taken)) (c .before .holds .ensures))
 
 trial-full-requires : tie.Need-trial-full-requires
-trial-full-requires c κs = let v = subst (TestedRight (tree ipv4) (c .before .before .before .before .before .before .before .before .before .args .pool .now)) (c .before .before .before .before .before .capacity .given .1) (c .before .before .before .before .before .before .before .tested .ensures) in omega (arith, sound-own ipv4 (c .before .before .before .before .before .before .before .before .before .args .pool .now) _ v .3)
+trial-full-requires c κs = omega (arith, sound-own ipv4 _ _ (sound (told2 c)) .3)
 
 returns-4 : tie.Need-returns-4
 returns-4 c =
-    let v = subst (TestedRight (tree ipv4) (c .before .before .before .before .before .before .before .before .before .before .before .args .pool .now)) (c .before .before .before .before .before .before .before .capacity .given .1) (c .before .before .before .before .before .before .before .before .before .tested .ensures) in
-    delete-no-3 (tree ipv4) _ (v .0) (v .1) (prefixOf (c .before .before .before .before .before .before .before .before .before .before .before .args .prefix)) (sym (c .before .before .before .before .before .well-formed .ensures) ∙ not-false _ (c .before .before .before .before .if1 .left)) (subst (Tells (tree ipv4) _ _) (not-false _ (c .before .before .if2 .left)) (c .before .before .before .holds .ensures)) (subst (Tells (tree ipv4) _ _) (c .if3 .taken) (c .before .trial-full .ensures))
+    let else2 = c .before .before in
+    let else1 = else2 .before .before in
+    let told = told2 else2 in
+    let state = sound told in
+    delete-no-3 (tree ipv4) _ (state .0) (state .1) (asked told) (formed else1) (held else2)
+    (subst (Tells (tree ipv4) _ _) (c .if3 .taken) (c .before .trial-full .ensures))
 
 returns-5 : tie.Need-returns-5
 returns-5 c =
-    let v = subst (TestedRight (tree ipv4) (c .before .before .before .before .before .before .before .before .before .before .before .args .pool .now)) (c .before .before .before .before .before .before .before .capacity .given .1) (c .before .before .before .before .before .before .before .before .before .tested .ensures) in
-    delete-goes (tree ipv4) _ (v .0) (v .1) _ (prefixOf (c .before .before .before .before .before .before .before .before .before .before .before .args .prefix)) (v .2) (sym (c .before .before .before .before .before .well-formed .ensures) ∙ not-false _ (c .before .before .before .before .if1 .left)) (subst (Tells (tree ipv4) _ _) (not-false _ (c .before .before .if2 .left)) (c .before .before .before .holds .ensures)) (subst (Tells (tree ipv4) _ _) (c .if3 .left) (c .before .trial-full .ensures))
+    let else2 = c .before .before in
+    let else1 = else2 .before .before in
+    let told = told2 else2 in
+    let state = sound told in
+    delete-goes (tree ipv4) _ (state .0) (state .1) _ (asked told) (state .2) (formed else1) (held else2)
+    (subst (Tells (tree ipv4) _ _) (c .if3 .left) (c .before .trial-full .ensures))
 
 pub may-delete-spec : {M : Type 1} → statement M
 may-delete-spec =

@@ -1,3 +1,4 @@
+-- The head's word of the standing changes tells it: `tells-standing`, at 0.
 use Rattle.pool.specs.Ipv4.{ipv4}
 use Rattle.may.proofs.Mays.{tells-standing}
 use borrow.Author.Needs.{needs}

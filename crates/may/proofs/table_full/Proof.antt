@@ -1,3 +1,4 @@
+-- The head's words of the count and the capacity tell it: `tells-full`.
 use Rattle.pool.specs.Ipv4.{ipv4}
 use Rattle.may.proofs.Mays.{tells-full}
 use borrow.Author.Needs.{needs}

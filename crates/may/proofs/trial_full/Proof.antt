@@ -1,3 +1,4 @@
+-- The head's word of the standing changes tells it: `tells-trial-full`, after the word is widened.
 use mathlib.Core.Path.{ap, _∙_}
 use Prim.Native.Nat.{ℕ}
 use native.Mathlib.Omega.{arith}

@@ -1,3 +1,4 @@
+-- The head's trial word tells it: `tells-open`.
 use Rattle.pool.specs.Ipv4.{ipv4}
 use Rattle.may.proofs.Mays.{tells-open}
 use borrow.Author.Needs.{needs}
