@@ -1,3 +1,4 @@
+-- `route::measure` measures the mask, and `mask-answer` takes what it says to the promise.
 use Rattle.read.proofs.Answers.{mask-answer}
 use borrow.Author.Needs.{needs}
 use Rattle.read.proofs.read.mask_length.Statement.{statement}
