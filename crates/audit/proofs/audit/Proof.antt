@@ -1,6 +1,7 @@
+-- The head, the tree, the three counts and the changes are tested in turn. A test that fails refuses the pool, since every sound pool passes it
+-- (`sound-fine`, `counts`). Past the last, `decides` says that the pool is sound exactly when the newest changes can be taken back.
 use Prim.Native.Nat.{ℕ}
-use mathlib.Core.Path.{_≡_, sym, subst, _∙_}
-use mathlib.Core.Bool.{true}
+use mathlib.Core.Path.{sym, subst, _∙_}
 use native.Mathlib.Omega.{arith}
 use borrow.Author.Tests.{not-true, not-false}
 use Rattle.model.proofs.Tests.{not-both}
@@ -13,10 +14,20 @@ use Rattle.standing.specs.Changes.{ChangesFine, BackSays}
 use Rattle.shape.specs.declared.tree.RootAudit.{RootAudit}
 use Rattle.shape.proofs.Hanging.{refused}
 use Rattle.places.proofs.Tally.{tally-le}
-use Rattle.audit.proofs.Sounding.{SoundAt, sound-fine, counts, decides}
+use Rattle.audit.proofs.Sounding.{sound-fine, counts, decides}
 use borrow.Author.Needs.{needs}
 use Rattle.audit.proofs.audit.Statement.{statement}
 use Rattle.audit.proofs.audit.Tie as tie
+
+-- Places that later answers go back to: the start, past the test of the head, and where the tree's counts are told.
+abbrev start : tie.Else1 → tie.Start
+start c = c .before .before .before
+
+abbrev past-head : tie.After-known-told → tie.Else1
+past-head c = c .before .before .before .before
+
+abbrev told : tie.Else4 → tie.After-known-told
+told c = c .before .before .before .before .before .before .before
 
 head-is-good-requires : tie.Need-head-is-good-requires
 head-is-good-requires c κs = search needs
@@ -34,15 +45,18 @@ enum-told : tie.Need-enum-told
 enum-told c = search needs
 
 -- what the first two tests say
-head-fine : (c : tie.Else1) → HeadFine ipv4 (c .before .before .before .args .capacity) (c .before .before .before .args .pool .now)
+head-fine : (c : tie.Else1) → HeadFine ipv4 (start c .args .capacity) (start c .args .pool .now)
 head-fine c = c .before .head-is-good .ensures .0 (not-false _ (c .if1 .left))
 
-root-says : (c : tie.After-known-told) → RootSays ipv4 (c .before .before .before .before .before .before .before .args .capacity) (c .before .before .before .before .before .before .before .args .pool .now) (RootAudit.Fine (c .before .routes .given .0 .0) (c .before .routes .given .0 .1 .0))
-root-says c = subst (RootSays ipv4 (c .before .before .before .before .before .before .before .args .capacity) (c .before .before .before .before .before .before .before .args .pool .now)) (c .before .routes .given .1) (c .before .before .before .audit-root .ensures)
+root-says : (c : tie.After-known-told) →
+    let args = start (past-head c) .args in
+    let counts-told = c .before .routes .given .0 in
+    RootSays ipv4 (args .capacity) (args .pool .now) (RootAudit.Fine (counts-told .0) (counts-told .1 .0))
+root-says c = subst (RootSays ipv4 _ _) (c .before .routes .given .1) (c .before .before .before .audit-root .ensures)
 
 returns-2 : tie.Need-returns-2
 returns-2 c =
-    let bad = subst (RootSays ipv4 (c .before .before .before .before .before .before .args .capacity) (c .before .before .before .before .before .before .args .pool .now)) (c .enum-told .given .1) (c .before .before .audit-root .ensures) in
+    let bad = subst (RootSays ipv4 _ _) (c .enum-told .given .1) (c .before .before .audit-root .ensures) in
     refused (λ s. let f = sound-fine ipv4 _ _ s in bad (f .tree) (f .root))
 
 shared-slice-read-wide : tie.Need-shared-slice-read-wide
@@ -58,13 +72,17 @@ used-requires : tie.Need-used-requires
 used-requires c κs = search needs
 
 returns-4 : tie.Need-returns-4
-returns-4 c = refused (λ s. c .if3 .taken (c .before .used .ensures ∙ counts ipv4 _ _ _ _ (root-says (c .before .before .before .before .before)) s .1))
+returns-4 c =
+    let after-known-told = c .before .before .before .before .before in
+    refused (λ s. c .if3 .taken (c .before .used .ensures ∙ counts ipv4 _ _ _ _ (root-says after-known-told) s .1))
 
 used-requires-2 : tie.Need-used-requires-2
 used-requires-2 c κs = search needs
 
 returns-5 : tie.Need-returns-5
-returns-5 c = refused (λ s. c .if4 .taken (c .before .used2 .ensures ∙ counts ipv4 _ _ _ _ (root-says (c .before .before .before .before .before .before .before)) s .2))
+returns-5 c =
+    let after-known-told = c .before .before .before .before .before .before .before in
+    refused (λ s. c .if4 .taken (c .before .used2 .ensures ∙ counts ipv4 _ _ _ _ (root-says after-known-told) s .2))
 
 shared-slice-read-wide-2 : tie.Need-shared-slice-read-wide-2
 shared-slice-read-wide-2 c = search needs
@@ -73,31 +91,51 @@ wide-requires-2 : tie.Need-wide-requires-2
 wide-requires-2 c κs = search needs
 
 changes-are-good-requires : tie.Need-changes-are-good-requires
-changes-are-good-requires c κs = (c .before .before .before .before .before .before .before .before .before .before .before .before .before .before .before .before .pre, omega (arith, head-fine (c .before .before .before .before .before .before .before .before .before .before .before .before .before) .few, c .wide2 .ensures))
+changes-are-good-requires c κs =
+    let else1 = past-head (told (c .before .before)) in
+    (start else1 .pre, omega (arith, head-fine else1 .few, c .wide2 .ensures))
 
 returns-6 : tie.Need-returns-6
 returns-6 c =
-    let all : SoundAt ipv4 (c .before .before .before .before .before .before .before .before .before .before .before .before .before .before .before .before .before .before .args .capacity) (c .before .before .before .before .before .before .before .before .before .before .before .before .before .before .before .before .before .before .args .pool .now) → c .before .changes-are-good .result ≡ true =
-    λ s. c .before .changes-are-good .ensures .1 (subst (ChangesFine ipv4 (c .before .before .before .before .before .before .before .before .before .before .before .before .before .before .before .before .before .before .args .capacity) (c .before .before .before .before .before .before .before .before .before .before .before .before .before .before .before .before .before .before .args .pool .now)) (sym (c .before .before .wide2 .ensures)) (sound-fine ipv4 _ _ s .changesFine)) in
-    refused (λ s. not-both (all s) (not-true _ (c .if5 .taken)))
+    let after-wide2 = c .before .before in
+    let good = c .before .changes-are-good .ensures .1 in
+    let same = sym (after-wide2 .wide2 .ensures) in
+    refused (λ s. not-both (good (subst (ChangesFine ipv4 _ _) same (sound-fine ipv4 _ _ s .changesFine))) (not-true _ (c .if5 .taken)))
 
 can-take-back-requires : tie.Need-can-take-back-requires
-can-take-back-requires c κs = (
-  c .before .before .before .before .before .before .before .before .before .before .before .before .before .before .before .before .before .before .pre,
-  (
-    omega (arith, head-fine (c .before .before .before .before .before .before .before .before .before .before .before .before .before .before .before) .few, c .before .before .wide2 .ensures),
-    omega (arith, tally-le (isUsed ipv4 (c .before .before .before .before .before .before .before .before .before .before .before .before .before .before .before .before .before .before .args .capacity) (c .before .before .before .before .before .before .before .before .before .before .before .before .before .before .before .before .before .before .args .pool .now) Sort.Route) (c .before .before .before .before .before .before .before .before .before .before .before .before .before .before .before .before .before .before .args .capacity), c .before .before .before .before .before .before .before .used .ensures, c .before .before .before .before .before .before .if3 .left),
-  ),
-)
+can-take-back-requires c κs =
+    let after-wide2 = c .before .before in
+    let else4 = after-wide2 .before .before in
+    let else3 = else4 .before .before in
+    let else1 = past-head (told else4) in
+    let args = start else1 .args in
+    let routes-fit = tally-le (isUsed ipv4 (args .capacity) (args .pool .now) Sort.Route) (args .capacity) in (
+      start else1 .pre,
+      (
+        omega (arith, head-fine else1 .few, after-wide2 .wide2 .ensures),
+        omega (arith, routes-fit, else3 .before .used .ensures, else3 .if3 .left),
+      ),
+    )
 
 returns-7 : tie.Need-returns-7
 returns-7 c =
-    let a = c .before .before .before .before .before .before .before .before .before .before .before .before .before .before .before .before .before .before .before .args in
-    let same = c .before .before .before .wide2 .ensures in
-    decides ipv4 (a .capacity) (a .pool .now) _ _ (root-says (c .before .before .before .before .before .before .before .before .before .before .before .before)) (c .before .before .before .before .before .before .before .before .before .before .before .before .before .before .before .before .before .before .before .pre) (head-fine (c .before .before .before .before .before .before .before .before .before .before .before .before .before .before .before .before)) (sym (c .before .before .before .before .before .before .before .before .before .before .wide .ensures) ∙ c .before .before .before .before .before .before .before .before .before .if2 .left)
-    (sym (c .before .before .before .before .before .before .before .before .used .ensures) ∙ c .before .before .before .before .before .before .before .if3 .left) (sym (c .before .before .before .before .before .before .used2 .ensures) ∙ c .before .before .before .before .before .if4 .left)
-    (subst (ChangesFine ipv4 (a .capacity) (a .pool .now)) same (c .before .before .changes-are-good .ensures .0 (not-false _ (c .before .if5 .left)))) (c .can-take-back .result)
-    (subst (λ (n : ℕ). BackSays ipv4 (a .capacity) (a .pool .now) n (c .before .before .before .before .before .before .before .before .before .before .before .before .before .routes .given .0 .0) (c .can-take-back .result)) same (c .can-take-back .ensures))
+    let after-changes = c .before .before in
+    let after-wide2 = after-changes .before in
+    let else4 = after-wide2 .before .before in
+    let else3 = else4 .before .before in
+    let else2 = else3 .before .before in
+    let else1 = past-head (told else4) in
+    let args = start else1 .args in
+    let same = after-wide2 .wide2 .ensures in
+    let changes-fine = subst (ChangesFine ipv4 _ _) same (after-changes .changes-are-good .ensures .0 (not-false _ (c .before .if5 .left))) in
+    let routes = told else4 .before .routes .given .0 .0 in
+    let back = c .can-take-back in
+    let says = subst (λ (n : ℕ). BackSays ipv4 (args .capacity) (args .pool .now) n routes (back .result)) same (back .ensures) in
+    decides ipv4 (args .capacity) (args .pool .now) _ _ (root-says (told else4)) (start else1 .pre) (head-fine else1)
+    (sym (else2 .before .wide .ensures) ∙ else2 .if2 .left)
+    (sym (else3 .before .used .ensures) ∙ else3 .if3 .left)
+    (sym (else4 .before .used2 .ensures) ∙ else4 .if4 .left)
+    changes-fine (back .result) says
 
 pub audit-spec : {M : Type 1} → statement M
 audit-spec =

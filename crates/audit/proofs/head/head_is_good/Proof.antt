@@ -1,3 +1,5 @@
+-- Each test of the head that fails refuses it, by arithmetic from the word read; past the last, all fields of a fine head are arithmetic
+-- but the last: with no trial open, none stands exactly when that word is 0.
 use mathlib.Core.Path.{_∙_}
 use native.Mathlib.Omega.{arith}
 use borrow.Author.Tests.{eqb-true, eq-eqb}
@@ -43,17 +45,18 @@ returns-6 : tie.Need-returns-6
 returns-6 c = search needs
 
 returns-7 : tie.Need-returns-7
-returns-7 c = (
-  λ t. record {
-    atLeastOne = omega arith;
-    inRange = omega arith;
-    capacityThere = omega arith;
-    trialKnown = omega arith;
-    few = omega arith;
-    noneStanding = λ e. omega (arith, eqb-true (c .before .before .wide3 .result) 0 t);
-  },
-  λ f. eq-eqb (c .before .before .wide3 .result) 0 (c .before .before .wide3 .ensures ∙ f .noneStanding (omega arith)),
-)
+returns-7 c =
+    let after-wide3 = c .before .before in (
+      λ t. record {
+        atLeastOne = omega arith;
+        inRange = omega arith;
+        capacityThere = omega arith;
+        trialKnown = omega arith;
+        few = omega arith;
+        noneStanding = λ e. omega (arith, eqb-true (after-wide3 .wide3 .result) 0 t);
+      },
+      λ f. eq-eqb (after-wide3 .wide3 .result) 0 (after-wide3 .wide3 .ensures ∙ f .noneStanding (omega arith)),
+    )
 
 pub head-is-good-spec : {M : Type 1} → statement M
 head-is-good-spec =
