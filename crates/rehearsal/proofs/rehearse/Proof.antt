@@ -1,4 +1,5 @@
--- `rehearsal::rehearse` meets its contract: each call's promise is what the run says of it.
+-- Where `fresh` is refused, `not-begun`. Else the promise of each call, in order, is what `followed` asks of the run;
+-- each call keeps the length (`long`), so the run does.
 use mathlib.Core.Path.{refl, ap, _∙_}
 use Rattle.route.specs.Answers.{doneNumber}
 use Rattle.rehearsal.proofs.Followed.{not-begun, followed, followed-routes}
@@ -19,7 +20,10 @@ same-length : tie.Need-same-length
 same-length c = search needs
 
 returns : tie.Need-returns
-returns c = not-begun (c .before .before .before .before .before .before .before .args .pool .now) _ _ (c .enum-told2 .given .0 .0) (c .before .before .before .before .fresh .ensures) (ap doneNumber (c .enum-told2 .given .1))
+returns c =
+    let after-fresh = c .before .before .before .before in
+    let start = after-fresh .before .before .before in
+    not-begun (start .args .pool .now) _ _ (c .enum-told2 .given .0 .0) (after-fresh .fresh .ensures) (ap doneNumber (c .enum-told2 .given .1))
 
 add-requires : tie.Need-add-requires
 add-requires c κs = search needs
@@ -61,27 +65,59 @@ back-out-requires : tie.Need-back-out-requires
 back-out-requires c κs = search needs
 
 same-length-2 : tie.Need-same-length-2
-same-length-2 c = c .before .before .back-out .ensures .long ∙ c .before .before .before .before .before .before .delete2 .ensures .long ∙ c .before .before .before .before .before .before .before .before .before .before .open-trial2 .ensures .long ∙ c .before .before .before .before .before .before .before .before .before .before .before .before .before .before .keep-trial .ensures .long ∙ c .before .before .before .before .before .before .before .before .before .before .before .before .before .before .before .before .before .before .step-back .ensures .long ∙ c .before .before .before .before .before .before .before .before .before .before .before .before .before .before .before .before .before .before .before .before .before .before .change-hop .ensures .long ∙ c .before .before .before .before .before .before .before .before .before .before .before .before .before .before .before .before .before .before .before .before .before .before .before .before .before .before .delete .ensures .long ∙ c .before .before .before .before .before .before .before .before .before .before .before .before .before .before .before .before .before .before .before .before .before .before .before .before .before .before .before .before .before .before .add4 .ensures .long ∙ c .before .before .before .before .before .before .before .before .before .before .before .before .before .before .before .before .before .before .before .before .before .before .before .before .before .before .before .before .before .before .before .before .before .before .open-trial .ensures .long ∙ c .before .before .before .before .before .before .before .before .before .before .before .before .before .before .before .before .before .before .before .before .before .before .before .before .before .before .before .before .before .before .before .before .before .before .before .before .before .before .before .before .add3 .ensures .long ∙ c .before .before .before .before .before .before .before .before .before .before .before .before .before .before .before .before .before .before .before .before .before .before .before .before .before .before .before .before .before .before .before .before .before .before .before .before .before .before .before .before .before .before .before .before .add2 .ensures .long ∙ c .before .before .before .before .before .before .before .before .before .before .before .before .before .before .before .before .before .before .before .before .before .before .before .before .before .before .before .before .before .before .before .before .before .before .before .before .before .before .before .before .before .before .before .before .before .before .before .before .add .ensures .long ∙ c .before .before .before .before .before .before .before .before .before .before .before .before .before .before .before .before .before .before .before .before .before .before .before .before .before .before .before .before .before .before .before .before .before .before .before .before .before .before .before .before .before .before .before .before .before .before .before .before .before .before .before .before .before .before .fresh .ensures .long
+same-length-2 c =
+    let after-back-out = c .before .before in
+    let after-delete2 = after-back-out .before .before .before .before in
+    let after-open-trial2 = after-delete2 .before .before .before .before in
+    let after-keep-trial = after-open-trial2 .before .before .before .before in
+    let after-step-back = after-keep-trial .before .before .before .before in
+    let after-change-hop = after-step-back .before .before .before .before in
+    let after-delete = after-change-hop .before .before .before .before in
+    let after-add4 = after-delete .before .before .before .before in
+    let after-open-trial = after-add4 .before .before .before .before in
+    let after-add3 = after-open-trial .before .before .before .before .before .before in
+    let after-add2 = after-add3 .before .before .before .before in
+    let after-add = after-add2 .before .before .before .before in
+    let after-fresh = after-add .before .before .before .before .before .before in
+    after-back-out .back-out .ensures .long ∙ after-delete2 .delete2 .ensures .long ∙ after-open-trial2 .open-trial2 .ensures .long ∙
+    after-keep-trial .keep-trial .ensures .long ∙ after-step-back .step-back .ensures .long ∙ after-change-hop .change-hop .ensures .long ∙
+    after-delete .delete .ensures .long ∙ after-add4 .add4 .ensures .long ∙ after-open-trial .open-trial .ensures .long ∙
+    after-add3 .add3 .ensures .long ∙ after-add2 .add2 .ensures .long ∙ after-add .add .ensures .long ∙ after-fresh .fresh .ensures .long
 
 -- the promises of the calls, and what they make of the run
 returns-2 : tie.Need-returns-2
 returns-2 c =
+    let after-back-out = c .before .before in
+    let after-delete2 = after-back-out .before .before .before .before in
+    let after-open-trial2 = after-delete2 .before .before .before .before in
+    let after-keep-trial = after-open-trial2 .before .before .before .before in
+    let after-step-back = after-keep-trial .before .before .before .before in
+    let after-change-hop = after-step-back .before .before .before .before in
+    let after-delete = after-change-hop .before .before .before .before in
+    let after-add4 = after-delete .before .before .before .before in
+    let after-open-trial = after-add4 .before .before .before .before in
+    let after-lookup = after-open-trial .before .before in
+    let after-add3 = after-lookup .before .before .before .before in
+    let after-add2 = after-add3 .before .before .before .before in
+    let after-add = after-add2 .before .before .before .before in
+    let after-enum-told = after-add .before .before in
+    let after-fresh = after-enum-told .before .before .before .before in
     let ran = followed _ _ _ _ _ _ _ _ _ _ _ _ _ _ _ _ _ _ _ _ _ _ _ _ _ _ _ _ _ _ _ _ _ _ _ _ _ _ _ _ _
-    (c .before .before .before .before .before .before .before .before .before .before .before .before .before .before .before .before .before .before .before .before .before .before .before .before .before .before .before .before .before .before .before .before .before .before .before .before .before .before .before .before .before .before .before .before .before .before .before .before .before .before .before .before .before .before .fresh .ensures)
-    (ap doneNumber (c .before .before .before .before .before .before .before .before .before .before .before .before .before .before .before .before .before .before .before .before .before .before .before .before .before .before .before .before .before .before .before .before .before .before .before .before .before .before .before .before .before .before .before .before .before .before .before .before .before .before .enum-told .given .1))
-    (c .before .before .before .before .before .before .before .before .before .before .before .before .before .before .before .before .before .before .before .before .before .before .before .before .before .before .before .before .before .before .before .before .before .before .before .before .before .before .before .before .before .before .before .before .before .before .before .before .add .ensures)
-    (c .before .before .before .before .before .before .before .before .before .before .before .before .before .before .before .before .before .before .before .before .before .before .before .before .before .before .before .before .before .before .before .before .before .before .before .before .before .before .before .before .before .before .before .before .add2 .ensures)
-    (c .before .before .before .before .before .before .before .before .before .before .before .before .before .before .before .before .before .before .before .before .before .before .before .before .before .before .before .before .before .before .before .before .before .before .before .before .before .before .before .before .add3 .ensures)
-    (c .before .before .before .before .before .before .before .before .before .before .before .before .before .before .before .before .before .before .before .before .before .before .before .before .before .before .before .before .before .before .before .before .before .before .before .before .lookup .ensures)
-    (c .before .before .before .before .before .before .before .before .before .before .before .before .before .before .before .before .before .before .before .before .before .before .before .before .before .before .before .before .before .before .before .before .before .before .open-trial .ensures)
-    (c .before .before .before .before .before .before .before .before .before .before .before .before .before .before .before .before .before .before .before .before .before .before .before .before .before .before .before .before .before .before .add4 .ensures)
-    (c .before .before .before .before .before .before .before .before .before .before .before .before .before .before .before .before .before .before .before .before .before .before .before .before .before .before .delete .ensures)
-    (c .before .before .before .before .before .before .before .before .before .before .before .before .before .before .before .before .before .before .before .before .before .before .change-hop .ensures)
-    (c .before .before .before .before .before .before .before .before .before .before .before .before .before .before .before .before .before .before .step-back .ensures)
-    (c .before .before .before .before .before .before .before .before .before .before .before .before .before .before .keep-trial .ensures)
-    (c .before .before .before .before .before .before .before .before .before .before .open-trial2 .ensures)
-    (c .before .before .before .before .before .before .delete2 .ensures)
-    (c .before .before .back-out .ensures) in
+    (after-fresh .fresh .ensures)
+    (ap doneNumber (after-enum-told .enum-told .given .1))
+    (after-add .add .ensures)
+    (after-add2 .add2 .ensures)
+    (after-add3 .add3 .ensures)
+    (after-lookup .lookup .ensures)
+    (after-open-trial .open-trial .ensures)
+    (after-add4 .add4 .ensures)
+    (after-delete .delete .ensures)
+    (after-change-hop .change-hop .ensures)
+    (after-step-back .step-back .ensures)
+    (after-keep-trial .keep-trial .ensures)
+    (after-open-trial2 .open-trial2 .ensures)
+    (after-delete2 .delete2 .ensures)
+    (after-back-out .back-out .ensures) in
     (λ h. refl, (λ h. ran, λ h. followed-routes _ _ ran))
 
 pub rehearse-spec : {M : Type 1} → statement M
