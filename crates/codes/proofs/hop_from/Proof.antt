@@ -1,5 +1,5 @@
+-- One return for each kind, and one for a number that is no kind.
 use Rattle.codes.proofs.Coded.{kind-direct, kind-via, kind-reject, kind-none}
-use borrow.Author.Needs.{needs}
 use Rattle.codes.proofs.hop_from.Statement.{statement}
 use Rattle.codes.proofs.hop_from.Tie as tie
 

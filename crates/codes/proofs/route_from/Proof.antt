@@ -1,3 +1,4 @@
+-- The prefix and the hop are those that the numbers name: `route-in`.
 use Rattle.codes.proofs.Coded.{route-in}
 use borrow.Author.Needs.{needs}
 use Rattle.codes.proofs.route_from.Statement.{statement}
@@ -10,7 +11,9 @@ hop-from-requires : tie.Need-hop-from-requires
 hop-from-requires c κs = search needs
 
 returns : tie.Need-returns
-returns c = route-in (c .before .new .result) (c .hop-from .result) (c .before .new .ensures .0) (c .before .new .ensures .1) (c .hop-from .ensures)
+returns c =
+    let made = c .before .new in
+    route-in (made .result) (c .hop-from .result) (made .ensures .0) (made .ensures .1) (c .hop-from .ensures)
 
 pub route-from-spec : {M : Type 1} → statement M
 route-from-spec = tie.close (tie.spec new-requires hop-from-requires returns)

@@ -1,3 +1,4 @@
+-- An answer is a refusal, whose number is returned (`out-refused`), or a route, whose words are written (`out-shown`).
 use mathlib.Core.Path.{refl, ap}
 use Rattle.route.specs.Answers.{foundNumber, foundValue}
 use Rattle.codes.proofs.Coded.{out-refused, out-shown}
@@ -15,13 +16,17 @@ number-requires : tie.Need-number-requires
 number-requires c κs = search needs
 
 returns : tie.Need-returns
-returns c = out-refused (c .before .enum-told .given .0 .0) (ap foundNumber (c .before .enum-told .given .1)) (ap foundValue (c .before .enum-told .given .1)) (c .number .ensures) (refl, refl)
+returns c =
+    let told = c .before .enum-told .given in
+    out-refused (told .0 .0) (ap foundNumber (told .1)) (ap foundValue (told .1)) (c .number .ensures) (refl, refl)
 
 words-of-requires : tie.Need-words-of-requires
 words-of-requires c κs = search needs
 
 returns-2 : tie.Need-returns-2
-returns-2 c = out-shown _ (ap foundNumber (c .before .before .answer .given .1)) (ap foundValue (c .before .before .answer .given .1)) (c .words-of .ensures) (refl, refl)
+returns-2 c =
+    let told = c .before .before .answer .given in
+    out-shown _ (ap foundNumber (told .1)) (ap foundValue (told .1)) (c .words-of .ensures) (refl, refl)
 
 pub show-spec : {M : Type 1} → statement M
 show-spec =

@@ -1,3 +1,4 @@
+-- The words of the route's kind of hop, one return for each kind: `route-words`.
 use Rattle.codes.proofs.Coded.{route-words}
 use borrow.Author.Needs.{needs}
 use Rattle.codes.proofs.words_of.Statement.{statement}

@@ -1,3 +1,4 @@
+-- Past the end nothing is written. Else the one word is set, at the index that was widened.
 use Prim.Native.Nat.{ℕ}
 use mathlib.Core.Path.{refl, ap}
 use mathlib.Core.Logic.{inl, inr}
@@ -23,7 +24,9 @@ same-length : tie.Need-same-length
 same-length c = search needs
 
 returns-2 : tie.Need-returns-2
-returns-2 c = inl (omega arith, refl, ap (λ (i : ℕ). set (c .before .before .before .args .words .now) i (c .before .before .before .args .value)) (c .before .wide .ensures))
+returns-2 c =
+    let args = c .before .before .before .args in
+    inl (omega arith, refl, ap (λ (i : ℕ). set (args .words .now) i (args .value)) (c .before .wide .ensures))
 
 pub poke-spec : {M : Type 1} → statement M
 poke-spec =

@@ -1,3 +1,4 @@
+-- `table::fresh` keeps its promise, and the code is the number that it returns: `as-fresh`.
 use Rattle.pool.specs.Ipv4.{ipv4}
 use Rattle.promise.specs.Trees.{tree}
 use Rattle.exports.proofs.Answers.{as-fresh}

@@ -1,3 +1,4 @@
+-- A capacity of 0 and one past the limit have no words; any other has its size.
 use mathlib.Core.Path.{ap, _∙_}
 use Rattle.pool.specs.Layout.{size}
 use Rattle.pool.specs.Ipv4.{ipv4}
@@ -19,7 +20,10 @@ size-of-requires : tie.Need-size-of-requires
 size-of-requires c κs = search needs
 
 returns-3 : tie.Need-returns-3
-returns-3 c = c .size-of .ensures ∙ ap (size ipv4) (c .before .wide .ensures) ∙ some-words _ (c .before .before .before .if1 .left) (c .before .before .if2 .left)
+returns-3 c =
+    let else2 = c .before .before in
+    let else1 = else2 .before in
+    c .size-of .ensures ∙ ap (size ipv4) (c .before .wide .ensures) ∙ some-words _ (else1 .if1 .left) (else2 .if2 .left)
 
 pub rishavand-words-spec : {M : Type 1} → statement M
 rishavand-words-spec =

@@ -1,3 +1,4 @@
+-- The five numbers make the route that the call names, `table::add` keeps its promise, and the code is its number: `as-call`.
 use mathlib.Core.Path.{ap}
 use Rattle.model.specs.Call.{add}
 use Rattle.pool.specs.Ipv4.{ipv4}
@@ -20,7 +21,10 @@ same-length : tie.Need-same-length
 same-length c = search needs
 
 returns : tie.Need-returns
-returns c = as-call (tree ipv4) (ap add (c .before .before .before .before .before .route-from .ensures)) (c .number .ensures) (c .before .before .before .add .ensures)
+returns c =
+    let after-add = c .before .before .before in
+    let after-route-from = after-add .before .before in
+    as-call (tree ipv4) (ap add (after-route-from .route-from .ensures)) (c .number .ensures) (after-add .add .ensures)
 
 pub rishavand-add-spec : {M : Type 1} → statement M
 rishavand-add-spec =

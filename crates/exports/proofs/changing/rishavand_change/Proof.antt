@@ -1,3 +1,4 @@
+-- The five numbers make the route that the call names, `table::change_hop` keeps its promise, and the code is its number: `as-call`.
 use mathlib.Core.Path.{ap}
 use Rattle.model.specs.Call.{change}
 use Rattle.pool.specs.Ipv4.{ipv4}
@@ -20,7 +21,10 @@ same-length : tie.Need-same-length
 same-length c = search needs
 
 returns : tie.Need-returns
-returns c = as-call (tree ipv4) (ap change (c .before .before .before .before .before .route-from .ensures)) (c .number .ensures) (c .before .before .before .change-hop .ensures)
+returns c =
+    let after-change-hop = c .before .before .before in
+    let after-route-from = after-change-hop .before .before in
+    as-call (tree ipv4) (ap change (after-route-from .route-from .ensures)) (c .number .ensures) (after-change-hop .change-hop .ensures)
 
 pub rishavand-change-spec : {M : Type 1} → statement M
 rishavand-change-spec =

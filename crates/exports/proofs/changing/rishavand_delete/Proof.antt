@@ -1,3 +1,4 @@
+-- The two numbers make the prefix that the call names, `table::delete` keeps its promise, and the code is its number: `as-call`.
 use mathlib.Core.Path.{ap}
 use Rattle.model.specs.Call.{delete}
 use Rattle.pool.specs.Ipv4.{ipv4}
@@ -21,7 +22,11 @@ same-length : tie.Need-same-length
 same-length c = search needs
 
 returns : tie.Need-returns
-returns c = as-call (tree ipv4) (ap delete (prefix-in (c .before .before .before .before .before .new .result) (c .before .before .before .before .before .new .ensures .0) (c .before .before .before .before .before .new .ensures .1))) (c .number .ensures) (c .before .before .before .delete .ensures)
+returns c =
+    let after-delete = c .before .before .before in
+    let made = after-delete .before .before .new in
+    let named = prefix-in (made .result) (made .ensures .0) (made .ensures .1) in
+    as-call (tree ipv4) (ap delete named) (c .number .ensures) (after-delete .delete .ensures)
 
 pub rishavand-delete-spec : {M : Type 1} → statement M
 rishavand-delete-spec =

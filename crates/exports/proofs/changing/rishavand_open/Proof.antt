@@ -1,3 +1,4 @@
+-- `table::open_trial` keeps its promise, and the code is the number that it returns: `as-call`.
 use mathlib.Core.Path.{refl}
 use Rattle.pool.specs.Ipv4.{ipv4}
 use Rattle.promise.specs.Trees.{tree}

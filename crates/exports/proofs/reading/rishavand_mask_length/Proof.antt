@@ -1,3 +1,4 @@
+-- What `table::mask_length` answers is a refusal, whose number is returned (`out-refused`), or a number that is written (`out-shown`).
 use mathlib.Core.Path.{refl, ap}
 use Rattle.route.specs.Answers.{measuredNumber, measuredValue}
 use Rattle.codes.proofs.Coded.{out-refused, out-shown}
@@ -18,10 +19,16 @@ number-requires : tie.Need-number-requires
 number-requires c κs = search needs
 
 returns : tie.Need-returns
-returns c = out-refused (c .before .enum-told .given .0 .0) (ap measuredNumber (c .before .enum-told .given .1)) (ap measuredValue (c .before .enum-told .given .1)) (c .number .ensures) (c .before .before .before .mask-length .ensures)
+returns c =
+    let told = c .before .enum-told .given in
+    let promise = c .before .before .before .mask-length .ensures in
+    out-refused (told .0 .0) (ap measuredNumber (told .1)) (ap measuredValue (told .1)) (c .number .ensures) promise
 
 returns-2 : tie.Need-returns-2
-returns-2 c = out-shown _ (ap measuredNumber (c .before .before .answer .given .1)) (ap measuredValue (c .before .before .answer .given .1)) refl (c .before .before .before .before .mask-length .ensures)
+returns-2 c =
+    let told = c .before .before .answer .given in
+    let promise = c .before .before .before .before .mask-length .ensures in
+    out-shown _ (ap measuredNumber (told .1)) (ap measuredValue (told .1)) refl promise
 
 pub rishavand-mask-length-spec : {M : Type 1} → statement M
 rishavand-mask-length-spec =

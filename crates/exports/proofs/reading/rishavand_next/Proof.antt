@@ -1,3 +1,4 @@
+-- The two numbers make the prefix that the call names, `table::next` keeps its promise, and `show` writes what it found: `out-of`.
 use mathlib.Core.Path.{refl, ap}
 use Rattle.model.specs.Call.{after}
 use Rattle.pool.specs.Ipv4.{ipv4}
@@ -18,7 +19,11 @@ show-requires : tie.Need-show-requires
 show-requires c κs = search needs
 
 returns : tie.Need-returns
-returns c = out-of (c .show .ensures) (as-call (tree ipv4) (ap after (prefix-in (c .before .before .before .new .result) (c .before .before .before .new .ensures .0) (c .before .before .before .new .ensures .1))) refl (c .before .before .next .ensures))
+returns c =
+    let after-next = c .before .before in
+    let made = after-next .before .new in
+    let named = prefix-in (made .result) (made .ensures .0) (made .ensures .1) in
+    out-of (c .show .ensures) (as-call (tree ipv4) (ap after named) refl (after-next .next .ensures))
 
 pub rishavand-next-spec : {M : Type 1} → statement M
 rishavand-next-spec = tie.close (tie.spec new-requires next-requires show-requires returns)

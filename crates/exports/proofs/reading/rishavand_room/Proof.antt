@@ -1,3 +1,4 @@
+-- What `table::room_left` answers is a refusal, whose number is returned (`out-refused`), or a number that is written (`out-shown`).
 use mathlib.Core.Path.{refl, ap}
 use Rattle.route.specs.Answers.{roomNumber, roomValue}
 use Rattle.codes.proofs.Coded.{out-refused, out-shown}
@@ -18,10 +19,16 @@ number-requires : tie.Need-number-requires
 number-requires c κs = search needs
 
 returns : tie.Need-returns
-returns c = out-refused (c .before .enum-told .given .0 .0) (ap roomNumber (c .before .enum-told .given .1)) (ap roomValue (c .before .enum-told .given .1)) (c .number .ensures) (c .before .before .before .room-left .ensures)
+returns c =
+    let told = c .before .enum-told .given in
+    let promise = c .before .before .before .room-left .ensures in
+    out-refused (told .0 .0) (ap roomNumber (told .1)) (ap roomValue (told .1)) (c .number .ensures) promise
 
 returns-2 : tie.Need-returns-2
-returns-2 c = out-shown _ (ap roomNumber (c .before .before .answer .given .1)) (ap roomValue (c .before .before .answer .given .1)) refl (c .before .before .before .before .room-left .ensures)
+returns-2 c =
+    let told = c .before .before .answer .given in
+    let promise = c .before .before .before .before .room-left .ensures in
+    out-shown _ (ap roomNumber (told .1)) (ap roomValue (told .1)) refl promise
 
 pub rishavand-room-spec : {M : Type 1} → statement M
 rishavand-room-spec =

@@ -1,3 +1,4 @@
+-- `table::sound` says whether the pool is sound: 1 where it is, 0 where it is not.
 use mathlib.Core.Path.{refl, sym, _∙_}
 use mathlib.Core.Bool.{true≢false}
 use mathlib.Core.Logic.{inl, inr}

@@ -1,3 +1,4 @@
+-- The number that is written is that of `table::room_left`, which keeps its promise; nothing is claimed of the lines.
 use mathlib.Core.Path.{_∙_}
 use borrow.Author.Needs.{needs}
 use Rattle.reply.proofs.routes.list.Statement.{statement}
@@ -19,7 +20,9 @@ number-line-requires : tie.Need-number-line-requires
 number-line-requires c κs = search needs
 
 returns : tie.Need-returns
-returns c m h = c .before .before .before .number .ensures ∙ c .before .before .before .before .room-left .ensures .numberIs m h
+returns c m h =
+    let after-number = c .before .before .before in
+    after-number .number .ensures ∙ after-number .before .room-left .ensures .numberIs m h
 
 slice-aggregate-text : tie.Need-slice-aggregate-text
 slice-aggregate-text c = search needs
@@ -49,7 +52,9 @@ walk-requires : tie.Need-walk-requires
 walk-requires c κs = search needs
 
 returns-2 : tie.Need-returns-2
-returns-2 c m h = c .before .before .before .before .before .before .before .before .before .before .before .number .ensures ∙ c .before .before .before .before .before .before .before .before .before .before .before .before .room-left .ensures .numberIs m h
+returns-2 c m h =
+    let after-number = c .before .before .before .before .before .before .before .before .before .before .before in
+    after-number .number .ensures ∙ after-number .before .room-left .ensures .numberIs m h
 
 pub list-spec : {M : Type 1} → statement M
 list-spec =
