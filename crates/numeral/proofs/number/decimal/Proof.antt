@@ -61,10 +61,14 @@ shared-slice-read-b : tie.Need-shared-slice-read-b Inv-loop μ-loop
 shared-slice-read-b c = search needs
 
 returns-2 : tie.Need-returns-2 Inv-loop μ-loop
-returns-2 c = λ n some h fits. omega (arith, next _ _ _ (search needs) (c .before .before .before .loop .inv .2) n h .0)
+returns-2 c =
+    let at-loop = c .before .before .before in
+    λ n some h fits. omega (arith, next _ _ _ (search needs) (at-loop .loop .inv .2) n h .0)
 
 returns-3 : tie.Need-returns-3 Inv-loop μ-loop
-returns-3 c = λ n some h fits. omega (arith, next _ _ _ (search needs) (c .before .before .before .before .loop .inv .2) n h .1)
+returns-3 c =
+    let at-loop = c .before .before .before .before in
+    λ n some h fits. omega (arith, next _ _ _ (search needs) (at-loop .loop .inv .2) n h .1)
 
 mul-value : tie.Need-mul-value Inv-loop μ-loop
 mul-value c = search needs
@@ -76,7 +80,9 @@ add-value : tie.Need-add-value Inv-loop μ-loop
 add-value c = search needs
 
 returns-4 : tie.Need-returns-4 Inv-loop μ-loop
-returns-4 c = too-great _ _ _ (search needs) (c .before .before .before .before .before .before .loop .inv .2) (c .before .wide .result) (c .before .wide .ensures) (search needs)
+returns-4 c =
+    let at-loop = c .before .before .before .before .before .before in
+    too-great _ _ _ (search needs) (at-loop .loop .inv .2) (c .before .wide .result) (c .before .wide .ensures) (search needs)
 
 add-i : tie.Need-add-i Inv-loop μ-loop
 add-i c = search needs
@@ -85,11 +91,12 @@ loop-less : tie.Need-loop-less Inv-loop μ-loop
 loop-less c = search needs
 
 loop-again : tie.Need-loop-again Inv-loop μ-loop
-loop-again c = (
-  search needs,
-  search needs,
-  turn _ _ _ (search needs) (c .before .before .before .before .before .before .loop .inv .2) (c .before .wide .result) (search needs) (search needs) (c .before .wide .ensures),
-)
+loop-again c =
+    let at-loop = c .before .before .before .before .before .before in (
+      search needs,
+      search needs,
+      turn _ _ _ (search needs) (at-loop .loop .inv .2) (c .before .wide .result) (search needs) (search needs) (c .before .wide .ensures),
+    )
 
 cast-t13 : tie.Need-cast-t13 Inv-loop μ-loop
 cast-t13 c = search needs

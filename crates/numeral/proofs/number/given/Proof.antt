@@ -1,3 +1,4 @@
+-- No word is one too few: `none-given`. Else what was read of it decides: `some-given`.
 use borrow.Author.Needs.{needs}
 use Rattle.numeral.proofs.Wording.{none-given, some-given}
 use Rattle.numeral.proofs.number.given.Statement.{statement}

@@ -1,3 +1,4 @@
+-- With no dot left there is no next octet; else it is the octet behind the dot: `next-read`.
 use borrow.Author.Needs.{needs}
 use Rattle.numeral.proofs.Addresses.{next-read}
 use Rattle.numeral.proofs.number.next_octet.Statement.{statement}
@@ -13,7 +14,9 @@ octet-requires : tie.Need-octet-requires
 octet-requires c κs = search needs
 
 returns-2 : tie.Need-returns-2
-returns-2 c = next-read (c .before .before .before .args .s .now) (c .before .before .before .args .dot) (c .before .before .before .args .before) (c .octet .result) (search needs) (c .octet .ensures)
+returns-2 c =
+    let args = c .before .before .before .args in
+    next-read (args .s .now) (args .dot) (args .before) (c .octet .result) (search needs) (c .octet .ensures)
 
 pub next-octet-spec : {M : Type 1} → statement M
 next-octet-spec = tie.close (tie.spec returns add-octet octet-requires returns-2)

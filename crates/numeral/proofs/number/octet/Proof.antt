@@ -1,3 +1,4 @@
+-- The dot's place ends the octet. What stands before it is no number, or one past 255, or the octet: one law for each return.
 use borrow.Author.Needs.{needs}
 use mathlib.Core.Path.{subst}
 use Rattle.numeral.specs.Decimal.{ReadAs}
@@ -27,10 +28,17 @@ enum-told : tie.Need-enum-told
 enum-told c = search needs
 
 returns : tie.Need-returns
-returns c = no-octet _ _ _ (c .before .before .before .before .find .ensures .0) (subst (ReadAs _) (c .enum-told .given .1) (c .before .before .decimal .ensures))
+returns c =
+    let after-decimal = c .before .before in
+    let none = subst (ReadAs _) (c .enum-told .given .1) (after-decimal .decimal .ensures) in
+    no-octet _ _ _ (after-decimal .before .before .find .ensures .0) none
 
 returns-2 : tie.Need-returns-2
-returns-2 c = high-octet _ _ _ (c .before .before .before .before .before .before .find .ensures .0) _ (subst (ReadAs _) (c .before .before .n .given .1) (c .before .before .before .before .decimal .ensures)) (search needs)
+returns-2 c =
+    let after-n = c .before .before in
+    let after-decimal = after-n .before .before in
+    let read = subst (ReadAs _) (after-n .n .given .1) (after-decimal .decimal .ensures) in
+    high-octet _ _ _ (after-decimal .before .before .find .ensures .0) _ read (search needs)
 
 mul-t12 : tie.Need-mul-t12
 mul-t12 c = search needs
@@ -39,7 +47,11 @@ add-t13 : tie.Need-add-t13
 add-t13 c = search needs
 
 returns-3 : tie.Need-returns-3
-returns-3 c = octet-read _ _ _ (c .before .before .before .before .before .before .find .ensures .0) _ _ (subst (ReadAs _) (c .before .before .n .given .1) (c .before .before .before .before .decimal .ensures)) (search needs)
+returns-3 c =
+    let after-n = c .before .before in
+    let after-decimal = after-n .before .before in
+    let read = subst (ReadAs _) (after-n .n .given .1) (after-decimal .decimal .ensures) in
+    octet-read _ _ _ (after-decimal .before .before .find .ensures .0) _ _ read (search needs)
 
 pub octet-spec : {M : Type 1} → statement M
 octet-spec =

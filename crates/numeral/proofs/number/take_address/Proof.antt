@@ -1,3 +1,4 @@
+-- The word is read as an address, and the place behind it told: `taken-as`.
 use borrow.Author.Needs.{needs}
 use Rattle.numeral.specs.Octets.{ReadAddress}
 use Rattle.numeral.proofs.Wording.{taken-as}
@@ -17,7 +18,11 @@ given-requires : tie.Need-given-requires
 given-requires c κs = search needs
 
 returns : tie.Need-returns
-returns c = taken-as ReadAddress _ _ _ _ _ _ _ (c .before .before .before .word-at .ensures) (c .before .before .address .ensures) (c .before .after .ensures) (c .given .ensures)
+returns c =
+    let after-address = c .before .before in
+    let after-word-at = after-address .before in
+    taken-as ReadAddress _ _ _ _ _ _ _ (after-word-at .word-at .ensures) (after-address .address .ensures) (c .before .after .ensures)
+    (c .given .ensures)
 
 pub take-address-spec : {M : Type 1} → statement M
 take-address-spec =

@@ -1,3 +1,4 @@
+-- The word is read as a number, and the place behind it told: `taken-as`.
 use borrow.Author.Needs.{needs}
 use Rattle.numeral.specs.Decimal.{ReadAs}
 use Rattle.numeral.proofs.Wording.{taken-as}
@@ -17,7 +18,10 @@ given-requires : tie.Need-given-requires
 given-requires c κs = search needs
 
 returns : tie.Need-returns
-returns c = taken-as ReadAs _ _ _ _ _ _ _ (c .before .before .before .word-at .ensures) (c .before .before .decimal .ensures) (c .before .after .ensures) (c .given .ensures)
+returns c =
+    let after-decimal = c .before .before in
+    let after-word-at = after-decimal .before in
+    taken-as ReadAs _ _ _ _ _ _ _ (after-word-at .word-at .ensures) (after-decimal .decimal .ensures) (c .before .after .ensures) (c .given .ensures)
 
 pub take-number-spec : {M : Type 1} → statement M
 take-number-spec =

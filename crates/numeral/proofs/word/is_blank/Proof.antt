@@ -1,3 +1,4 @@
+-- A space is a blank, and of the other bytes the tab is.
 use Rattle.numeral.proofs.Wording.{blank-space, blank-other}
 use Rattle.numeral.proofs.word.is_blank.Statement.{statement}
 use Rattle.numeral.proofs.word.is_blank.Tie as tie

@@ -25,7 +25,17 @@ is-blank-requires : tie.Need-is-blank-requires Inv-loop μ-loop
 is-blank-requires c κs = search needs
 
 returns : tie.Need-returns Inv-loop μ-loop
-returns c = (search needs, omega (arith, c .before .before .before .before .loop .inv .1, stops (c .before .before .before .before .before .before .args .line .now) (c .before .before .before .before .loop .i) (c .before .before .before .before .before .before .args .blank) (c .before .is-blank .result) (search needs) (c .before .is-blank .ensures) (c .if1 .taken)))
+returns c =
+    let at-loop = c .before .before .before .before in
+    let args = at-loop .before .before .args in (
+      search needs,
+      omega (
+        arith,
+        at-loop .loop .inv .1,
+        stops (args .line .now) (at-loop .loop .i) (args .blank) (c .before .is-blank .result)
+            (search needs) (c .before .is-blank .ensures) (c .if1 .taken),
+      ),
+    )
 
 add-i : tie.Need-add-i Inv-loop μ-loop
 add-i c = search needs
@@ -34,10 +44,22 @@ loop-less : tie.Need-loop-less Inv-loop μ-loop
 loop-less c = search needs
 
 loop-again : tie.Need-loop-again Inv-loop μ-loop
-loop-again c = (search needs, omega (arith, c .before .before .before .before .loop .inv .1, goes-on (c .before .before .before .before .before .before .args .line .now) (c .before .before .before .before .loop .i) (c .before .before .before .before .before .before .args .blank) (c .before .is-blank .result) (search needs) (c .before .is-blank .ensures) (c .if1 .left)))
+loop-again c =
+    let at-loop = c .before .before .before .before in
+    let args = at-loop .before .before .args in (
+      search needs,
+      omega (
+        arith,
+        at-loop .loop .inv .1,
+        goes-on (args .line .now) (at-loop .loop .i) (args .blank) (c .before .is-blank .result)
+            (search needs) (c .before .is-blank .ensures) (c .if1 .left),
+      ),
+    )
 
 returns-2 : tie.Need-returns-2 Inv-loop μ-loop
-returns-2 c = (search needs, omega (arith, c .before .loop .inv .1, ends (c .before .before .before .args .line .now) (c .before .loop .i) (c .before .before .before .args .blank) (omega arith)))
+returns-2 c =
+    let args = c .before .before .before .args in
+    (search needs, omega (arith, c .before .loop .inv .1, ends (args .line .now) (c .before .loop .i) (args .blank) (omega arith)))
 
 pub pass-spec : {M : Type 1} → statement M
 pass-spec =

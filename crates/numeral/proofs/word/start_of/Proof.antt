@@ -1,10 +1,13 @@
+-- Past the line's end there is nothing: `past-line`. Else the blanks are passed: `in-line`.
 use borrow.Author.Needs.{needs}
 use Rattle.numeral.proofs.Wording.{past-line, in-line}
 use Rattle.numeral.proofs.word.start_of.Statement.{statement}
 use Rattle.numeral.proofs.word.start_of.Tie as tie
 
 returns : tie.Need-returns
-returns c = (search needs, past-line (c .before .before .args .line .now) (c .before .before .args .from) (search needs))
+returns c =
+    let args = c .before .before .args in
+    (search needs, past-line (args .line .now) (args .from) (search needs))
 
 pass-requires : tie.Need-pass-requires
 pass-requires c κs = search needs

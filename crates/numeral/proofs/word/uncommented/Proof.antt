@@ -1,3 +1,4 @@
+-- The line is cut at its first `#`, which `bytes::find` finds.
 use borrow.Author.Needs.{needs}
 use Prim.Native.Nat.{ℕ, _-_}
 use mathlib.Core.Path.{_≡_, ap}
@@ -22,9 +23,9 @@ part-result-end c = search needs
 
 returns : tie.Need-returns
 returns c =
-    let s = c .before .before .before .args .line .now in
-    let many : c .before .find .result - 0 ≡ indexOf 35 (c .before .before .before .args .line .now) = omega (arith, found-at 35 (c .before .before .before .args .line .now) 0 _ (c .before .find .ensures .0)) in
-    ap (λ (n : ℕ). take n s) many
+    let line = c .before .before .before .args .line .now in
+    let cut : c .before .find .result - 0 ≡ indexOf 35 line = omega (arith, found-at 35 line 0 _ (c .before .find .ensures .0)) in
+    ap (λ (n : ℕ). take n line) cut
 
 pub uncommented-spec : {M : Type 1} → statement M
 uncommented-spec =

@@ -1,3 +1,4 @@
+-- The blanks and then the word are passed, so the bytes between are the word: `word-there`.
 use borrow.Author.Needs.{needs}
 use Rattle.numeral.proofs.Wording.{word-there}
 use Rattle.numeral.proofs.word.word_at.Statement.{statement}
@@ -19,7 +20,10 @@ part-result-end : tie.Need-part-result-end
 part-result-end c = search needs
 
 returns : tie.Need-returns
-returns c = word-there (c .before .before .before .before .args .line .now) (c .before .before .before .before .args .from) _ _ (c .before .before .start-of .ensures .1) (c .before .pass .ensures .1)
+returns c =
+    let after-start-of = c .before .before in
+    let args = after-start-of .before .before .args in
+    word-there (args .line .now) (args .from) _ _ (after-start-of .start-of .ensures .1) (c .before .pass .ensures .1)
 
 pub word-at-spec : {M : Type 1} → statement M
 word-at-spec =
