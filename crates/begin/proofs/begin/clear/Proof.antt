@@ -33,11 +33,10 @@ loop-less : tie.Need-loop-less Inv-loop μ-loop
 loop-less c = omega arith
 
 loop-again : tie.Need-loop-again Inv-loop μ-loop
-loop-again c = (
-  omega arith,
-  length-set (c .before .loop .pool) (c .before .loop .i) 0 ∙ c .before .loop .inv .1,
-  ap (λ (l : List ℕ). set l (c .before .loop .i) 0) (c .before .loop .inv .2) ∙ fill-more (c .before .loop .i) 0 (c .before .before .args .pool .now) (omega arith),
-)
+loop-again c =
+    let loop = c .before .loop in
+    let cleared = fill-more (loop .i) 0 (c .before .before .args .pool .now) (omega arith) in
+    (omega arith, length-set (loop .pool) (loop .i) 0 ∙ loop .inv .1, ap (λ (l : List ℕ). set l (loop .i) 0) (loop .inv .2) ∙ cleared)
 
 same-length : tie.Need-same-length Inv-loop μ-loop
 same-length c = c .before .loop .inv .1

@@ -1,3 +1,5 @@
+-- The loop's invariant: the length is the pool's, and for each state that the pool may mean the back out is still going (`Going`):
+-- what is left to undo leads to the same end. The measure is the word of the standing changes. Once none stands, `going-does`.
 use mathlib.Core.Path.{_≡_, refl, _∙_}
 use native.Mathlib.Omega.{arith}
 use borrow.Author.Needs.{needs}
@@ -27,17 +29,28 @@ slice-read-if1 c = omega arith
 
 step-back-requires : tie.Need-step-back-requires Inv-loop μ-loop
 step-back-requires c κs =
-    let a = c .before .before .before .before .before .pre .1 in
-    let g = c .before .before .before .loop .inv .1 (a .0) (a .1) in
-    ((c .before .before .before .before .before .pre .0 .0, c .before .before .before .loop .inv .0 ∙ c .before .before .before .before .before .pre .0 .1), (g .state, going-accepts ipv4 _ _ _ g (λ z. omega (arith, z, c .before .if1 .taken))))
+    let at-loop = c .before .before .before in
+    let pre = at-loop .before .before .pre in
+    let going = at-loop .loop .inv .1 (pre .1 .0) (pre .1 .1) in
+    let may = going-accepts ipv4 _ _ _ going (λ z. omega (arith, z, c .before .if1 .taken)) in
+    ((pre .0 .0, at-loop .loop .inv .0 ∙ pre .0 .1), (going .state, may))
 
 loop-less : tie.Need-loop-less Inv-loop μ-loop
 loop-less c =
-    let a = c .before .before .before .before .before .before .before .before .pre .1 in
-    going-step ipv4 _ _ _ _ (c .before .before .before .before .before .before .loop .inv .1 (a .0) (a .1)) (λ z. omega (arith, z, c .before .before .before .before .if1 .taken)) (c .before .before .step-back .ensures) .less
+    let after-step-back = c .before .before in
+    let then1 = after-step-back .before .before in
+    let at-loop = then1 .before .before in
+    let accepted = at-loop .before .before .pre .1 in
+    let going = at-loop .loop .inv .1 (accepted .0) (accepted .1) in
+    going-step ipv4 _ _ _ _ going (λ z. omega (arith, z, then1 .if1 .taken)) (after-step-back .step-back .ensures) .less
 
 loop-again : tie.Need-loop-again Inv-loop μ-loop
-loop-again c = (omega arith, λ s a. going-step ipv4 _ _ _ s (c .before .before .before .before .before .before .loop .inv .1 s a) (λ z. omega (arith, z, c .before .before .before .before .if1 .taken)) (c .before .before .step-back .ensures) .going)
+loop-again c =
+    let after-step-back = c .before .before in
+    let then1 = after-step-back .before .before in
+    let going = then1 .before .before .loop .inv .1 in
+    let step = after-step-back .step-back .ensures in
+    (omega arith, λ s a. going-step ipv4 _ _ _ s (going s a) (λ z. omega (arith, z, then1 .if1 .taken)) step .going)
 
 write-head-requires : tie.Need-write-head-requires Inv-loop μ-loop
 write-head-requires c κs = omega arith
@@ -46,7 +59,11 @@ same-length : tie.Need-same-length Inv-loop μ-loop
 same-length c = search needs
 
 returns : tie.Need-returns Inv-loop μ-loop
-returns c = going-does ipv4 laid4 _ _ _ _ (c .before .before .before .before .before .before .loop .inv .1) (c .before .before .before .before .if1 .left) (c .before .before .write-head .ensures)
+returns c =
+    let after-write-head = c .before .before in
+    let else1 = after-write-head .before .before in
+    let at-loop = else1 .before .before in
+    going-does ipv4 laid4 _ _ _ _ (at-loop .loop .inv .1) (else1 .if1 .left) (after-write-head .write-head .ensures)
 
 pub back-out-spec : {M : Type 1} → statement M
 back-out-spec =
