@@ -1,3 +1,4 @@
+-- The search finds the route's place, and the hop is read there: `hop-there`. Where it finds none, the route is not held: `found-there`.
 use mathlib.Core.Path.{ap, subst, _∙_}
 use native.Mathlib.Omega.{arith}
 use Rattle.pool.specs.Ipv4.{hopAt, ipv4}
@@ -14,10 +15,17 @@ enum-known-place : tie.Need-enum-known-place
 enum-known-place c = search needs
 
 seat-requires : tie.Need-seat-requires
-seat-requires c κs = let f = subst (Finds ipv4 _ _ _) (c .before .place .given .1) (c .before .before .before .find .ensures) in omega (arith, f .inPool, c .before .before .before .before .before .pre .0)
+seat-requires c κs =
+    let after-find = c .before .before .before in
+    let found = subst (Finds ipv4 _ _ _) (c .before .place .given .1) (after-find .find .ensures) in
+    omega (arith, found .inPool, after-find .before .before .pre .0)
 
 hop-at-requires : tie.Need-hop-at-requires
-hop-at-requires c κs = let f = subst (Finds ipv4 _ _ _) (c .before .before .place .given .1) (c .before .before .before .before .find .ensures) in omega (arith, f .inPool, c .before .before .before .before .before .before .pre, c .seat .ensures)
+hop-at-requires c κs =
+    let after-place = c .before .before in
+    let after-find = after-place .before .before in
+    let found = subst (Finds ipv4 _ _ _) (after-place .place .given .1) (after-find .find .ensures) in
+    omega (arith, found .inPool, after-find .before .before .pre, c .seat .ensures)
 
 enum-told : tie.Need-enum-told
 enum-told c = search needs
@@ -26,13 +34,22 @@ enum-told-2 : tie.Need-enum-told-2
 enum-told-2 c = search needs
 
 returns : tie.Need-returns
-returns c = λ s m k r e. c .hop-at .ensures ∙ (ap (hopAt (c .before .before .before .before .before .before .before .args .pool .now)) (c .before .seat .ensures) ∙ hop-there ipv4 _ _ _ _ (subst (Finds ipv4 _ _ _) (c .before .before .before .place .given .1) (c .before .before .before .before .before .find .ensures)) s m k r e)
+returns c =
+    let after-place = c .before .before .before in
+    let after-find = after-place .before .before in
+    let found = subst (Finds ipv4 _ _ _) (after-place .place .given .1) (after-find .find .ensures) in
+    let read = c .hop-at .ensures ∙ ap (hopAt (after-find .before .before .args .pool .now)) (c .before .seat .ensures) in
+    λ s m k r e. read ∙ hop-there ipv4 _ _ _ _ found s m k r e
 
 returns-2 : tie.Need-returns-2
-returns-2 c = λ s m k r e. absurd (found-there ipv4 _ _ _ _ (subst (Finds ipv4 _ _ _) (c .enum-told .given .1) (c .before .before .find .ensures)) s m k r e .1)
+returns-2 c =
+    let none = subst (Finds ipv4 _ _ _) (c .enum-told .given .1) (c .before .before .find .ensures) in
+    λ s m k r e. absurd (found-there ipv4 _ _ _ _ none s m k r e .1)
 
 returns-3 : tie.Need-returns-3
-returns-3 c = λ s m k r e. absurd (found-there ipv4 _ _ _ _ (subst (Finds ipv4 _ _ _) (c .enum-told2 .given .1) (c .before .before .find .ensures)) s m k r e .1)
+returns-3 c =
+    let none = subst (Finds ipv4 _ _ _) (c .enum-told2 .given .1) (c .before .before .find .ensures) in
+    λ s m k r e. absurd (found-there ipv4 _ _ _ _ none s m k r e .1)
 
 pub held-hop-spec : {M : Type 1} → statement M
 held-hop-spec =

@@ -1,3 +1,4 @@
+-- The head of a closed trial is written: `keep-does`.
 use Rattle.pool.specs.Ipv4.{ipv4}
 use Rattle.pool.proofs.Ipv4.{laid4}
 use Rattle.apply.proofs.Made.{keep-does}

@@ -1,3 +1,4 @@
+-- The head of an open trial with no change is written: `open-does`.
 use Rattle.pool.specs.Ipv4.{ipv4}
 use Rattle.pool.proofs.Ipv4.{laid4}
 use Rattle.apply.proofs.Made.{open-does}

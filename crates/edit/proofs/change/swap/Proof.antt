@@ -1,3 +1,4 @@
+-- The route is held at a place (`held-not` where it is not), and the three words of its hop are written there: `swap-done`.
 use mathlib.Core.Path.{subst}
 use native.Mathlib.Omega.{arith}
 use borrow.Author.Needs.{needs}
@@ -16,8 +17,11 @@ enum-known-place c = search needs
 
 swap-hop-requires : tie.Need-swap-hop-requires
 swap-hop-requires c κs =
-    let u = c .before .before .before .before .before .before .before .before .pre .0 in
-    let v = subst (HeldRight ipv4 _ _ _) (c .before .before .place .given .1) (c .before .before .before .before .held-at .ensures) .inPool in
+    let after-place = c .before .before in
+    let after-held-at = after-place .before .before in
+    let start = after-held-at .before .before .before .before in
+    let u = start .pre .0 in
+    let v = subst (HeldRight ipv4 _ _ _) (after-place .place .given .1) (after-held-at .held-at .ensures) .inPool in
     (omega (arith, u .1, v .1), omega (arith, u .0, v .1))
 
 enum-told : tie.Need-enum-told
@@ -27,13 +31,20 @@ same-length : tie.Need-same-length
 same-length c = search needs
 
 returns : tie.Need-returns
-returns c = λ s p. swap-done ipv4 laid4 _ _ _ s p _ _ _ _ (subst (HeldRight ipv4 _ _ _) (c .before .before .before .before .before .place .given .1) (c .before .before .before .before .before .before .before .held-at .ensures)) (c .before .before .swap-hop .ensures)
+returns c =
+    let after-swap-hop = c .before .before in
+    let after-place = after-swap-hop .before .before .before in
+    let after-held-at = after-place .before .before in
+    let held = subst (HeldRight ipv4 _ _ _) (after-place .place .given .1) (after-held-at .held-at .ensures) in
+    λ s p. swap-done ipv4 laid4 _ _ _ s p _ _ _ _ held (after-swap-hop .swap-hop .ensures)
 
 same-length-2 : tie.Need-same-length-2
 same-length-2 c = search needs
 
 returns-2 : tie.Need-returns-2
-returns-2 c = λ s p. absurd (held-not ipv4 laid4 _ _ _ s p (subst (HeldRight ipv4 _ _ _) (c .enum-told .given .1) (c .before .before .held-at .ensures)))
+returns-2 c =
+    let held = subst (HeldRight ipv4 _ _ _) (c .enum-told .given .1) (c .before .before .held-at .ensures) in
+    λ s p. absurd (held-not ipv4 laid4 _ _ _ s p held)
 
 pub swap-spec : {M : Type 1} → statement M
 swap-spec =
