@@ -1,3 +1,5 @@
+-- The loop's invariant: for every list of routes that the tree holds, the changes from `left` on are taken back, which leaves `held` routes
+-- (`Standing`). The measure is how many are left. One that cannot be taken back stops it (`standing-stop`); with none left, `standing-end`.
 use Prim.Native.Nat.{ℕ, suc, _-_, _≤_}
 use mathlib.Core.Path.{_≡_, refl, subst}
 use mathlib.Core.Bool.{false≢true}
@@ -16,7 +18,8 @@ use Rattle.standing.proofs.changes.can_take_back.Tie as tie
 
 abbrev Inv-loop : tie.InvT-loop
 Inv-loop pool capacity standing routes held₀ left₀ held left =
-    (left ≤ standing) × (held ≤ capacity) × ((l : List (Route Hop)) → Tabled ipv4 capacity pool l → routes ≡ length l → Standing ipv4 capacity pool standing left held l)
+    (left ≤ standing) × (held ≤ capacity)
+    × ((l : List (Route Hop)) → Tabled ipv4 capacity pool l → routes ≡ length l → Standing ipv4 capacity pool standing left held l)
 
 abbrev μ-loop : tie.MeasureT-loop
 μ-loop pool capacity standing routes held₀ left₀ held left = left
@@ -38,34 +41,41 @@ enum-told c = search needs
 
 returns : tie.Need-returns Inv-loop μ-loop
 returns c l t e =
-    let a = c .before .before .before .before .before .before .args in
-    let bad = subst (TakenSays ipv4 (a .capacity) (a .pool .now) (a .standing) (c .before .before .before .before .loop .left - 1) (c .before .before .before .before .loop .held)) (c .enum-told .given .1) (c .before .before .take-back .ensures) in
-    let one : c .before .before .before .before .loop .left ≡ suc (c .before .before .before .before .loop .left - 1) = omega arith in
-    let s = subst (λ (m : ℕ). Standing ipv4 (a .capacity) (a .pool .now) (a .standing) m (c .before .before .before .before .loop .held) l) one (c .before .before .before .before .loop .inv .2 l t e) in
+    let after-take-back = c .before .before in
+    let at-loop = after-take-back .before .before in
+    let loop = at-loop .loop in
+    let args = at-loop .before .before .args in
+    let bad = subst (TakenSays ipv4 _ _ _ _ _) (c .enum-told .given .1) (after-take-back .take-back .ensures) in
+    let one : loop .left ≡ suc (loop .left - 1) = omega arith in
+    let s = subst (λ (m : ℕ). Standing ipv4 (args .capacity) (args .pool .now) (args .standing) m (loop .held) l) one (loop .inv .2 l t e) in
     (λ z. absurd (false≢true z), λ u. absurd (standing-stop ipv4 _ _ _ _ _ l t bad s u))
 
 -- so many are left when one more is taken back
-taken : (c : tie.After-known-told Inv-loop μ-loop)
-    → TakenSays ipv4 (c .before .before .before .before .before .before .before .args .capacity) (c .before .before .before .before .before .before .before .args .pool .now) (c .before .before .before .before .before .before .before .args .standing) (c .before .before .before .before .before .loop .left - 1) (c .before .before .before .before .before .loop .held) (Taken.Held (c .before .now-held .given .0 .0))
-taken c = subst (TakenSays ipv4 (c .before .before .before .before .before .before .before .args .capacity) (c .before .before .before .before .before .before .before .args .pool .now) (c .before .before .before .before .before .before .before .args .standing) (c .before .before .before .before .before .loop .left - 1) (c .before .before .before .before .before .loop .held)) (c .before .now-held .given .1) (c .before .before .before .take-back .ensures)
+taken : (c : tie.After-known-told Inv-loop μ-loop) →
+    let at-loop = c .before .before .before .before .before in
+    let loop = at-loop .loop in
+    let args = at-loop .before .before .args in
+    TakenSays ipv4 (args .capacity) (args .pool .now) (args .standing) (loop .left - 1) (loop .held) (Taken.Held (c .before .now-held .given .0 .0))
+taken c = subst (TakenSays ipv4 _ _ _ _ _) (c .before .now-held .given .1) (c .before .before .before .take-back .ensures)
 
 loop-less : tie.Need-loop-less Inv-loop μ-loop
 loop-less c = omega arith
 
 loop-again : tie.Need-loop-again Inv-loop μ-loop
 loop-again c =
-    let a = c .before .before .before .before .before .before .before .args in
-    let one : c .before .before .before .before .before .loop .left ≡ suc (c .before .before .before .before .before .loop .left - 1) = omega arith in (
-      omega arith,
-      taken c .0,
-      λ l t e. standing-step ipv4 _ _ _ _ _ _ l (omega arith) t (taken c) (subst (λ (m : ℕ). Standing ipv4 (a .capacity) (a .pool .now) (a .standing) m (c .before .before .before .before .before .loop .held) l) one (c .before .before .before .before .before .loop .inv .2 l t e)),
-    )
+    let at-loop = c .before .before .before .before .before in
+    let loop = at-loop .loop in
+    let args = at-loop .before .before .args in
+    let one : loop .left ≡ suc (loop .left - 1) = omega arith in
+    let Left : List (Route Hop) → ℕ → Type 0 = λ l m. Standing ipv4 (args .capacity) (args .pool .now) (args .standing) m (loop .held) l in
+    (omega arith, taken c .0, λ l t e. standing-step ipv4 _ _ _ _ _ _ l (omega arith) t (taken c) (subst (Left l) one (loop .inv .2 l t e)))
 
 returns-2 : tie.Need-returns-2 Inv-loop μ-loop
 returns-2 c l t e =
-    let a = c .before .before .before .args in
-    let none : c .before .loop .left ≡ 0 = omega arith in
-    let s = subst (λ (m : ℕ). Standing ipv4 (a .capacity) (a .pool .now) (a .standing) m (c .before .loop .held) l) none (c .before .loop .inv .2 l t e) in
+    let loop = c .before .loop in
+    let args = c .before .before .before .args in
+    let none : loop .left ≡ 0 = omega arith in
+    let s = subst (λ (m : ℕ). Standing ipv4 (args .capacity) (args .pool .now) (args .standing) m (loop .held) l) none (loop .inv .2 l t e) in
     (λ z. standing-end ipv4 _ _ _ _ l s, λ u. refl)
 
 pub can-take-back-spec : {M : Type 1} → statement M

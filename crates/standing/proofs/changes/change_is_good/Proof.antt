@@ -1,6 +1,8 @@
+-- The slot's prefix and action are read. A prefix that does not obey, and an action that there is not, refuse the change;
+-- for each action the change is fine exactly when its hops are: a law of `Recording` each way.
 use Prim.Native.Nat.{ℕ, _+_}
 use mathlib.Core.Path.{_≡_, sym, ap, subst, _∙_}
-use mathlib.Core.Bool.{true}
+use mathlib.Core.Bool.{true, Bool}
 use mathlib.Core.Logic.{_↔_}
 use borrow.Author.Tests.{not-true, not-false}
 use Rattle.model.specs.Prefix.{wellFormed}
@@ -35,27 +37,59 @@ well-formed-requires : tie.Need-well-formed-requires
 well-formed-requires c κs = search needs
 
 -- the prefix and the action are those of the slot
-prefix-there : (c : tie.After-prefix-at) → prefixOf (c .prefix-at .result) ≡ changedAt ipv4 (c .before .before .before .before .args .capacity) (c .before .before .before .before .args .pool .now) (c .before .before .before .before .args .change)
-prefix-there c = c .prefix-at .ensures ∙ ap (λ (n : ℕ). prefixAt ipv4 (c .before .before .before .before .args .pool .now) (n + 1)) (c .before .before .slot .ensures)
+prefix-there : (c : tie.After-prefix-at) →
+    let args = c .before .before .before .before .args in
+    prefixOf (c .prefix-at .result) ≡ changedAt ipv4 (args .capacity) (args .pool .now) (args .change)
+prefix-there c =
+    let after-slot = c .before .before in
+    let start = after-slot .before .before in
+    c .prefix-at .ensures ∙ ap (λ (n : ℕ). prefixAt ipv4 (start .args .pool .now) (n + 1)) (after-slot .slot .ensures)
 
-action-there : (c : tie.After-prefix-at) → word (c .before .before .before .before .args .pool .now) (c .before .before .slot .result) ≡ actionAt ipv4 (c .before .before .before .before .args .capacity) (c .before .before .before .before .args .pool .now) (c .before .before .before .before .args .change)
-action-there c = ap (word (c .before .before .before .before .args .pool .now)) (c .before .before .slot .ensures)
+action-there : (c : tie.After-prefix-at) →
+    let after-slot = c .before .before in
+    let args = after-slot .before .before .args in
+    word (args .pool .now) (after-slot .slot .result) ≡ actionAt ipv4 (args .capacity) (args .pool .now) (args .change)
+action-there c =
+    let after-slot = c .before .before in
+    let start = after-slot .before .before in
+    ap (word (start .args .pool .now)) (after-slot .slot .ensures)
+
+-- what is said of a hop at an offset from the slot's place, said of the slot
+hop-fine : (c : tie.After-slot) (good : Bool) (offset : ℕ) →
+    let args = c .before .before .args in
+    let fine = PayloadFine ipv4 (args .pool .now) (changedAt ipv4 (args .capacity) (args .pool .now) (args .change)) in
+    (good ≡ true) ↔ fine (c .slot .result + offset) → (good ≡ true) ↔ fine (ipv4 .slot (args .capacity) (args .change) + offset)
+hop-fine c good offset h =
+    let args = c .before .before .args in
+    let fine = PayloadFine ipv4 (args .pool .now) (changedAt ipv4 (args .capacity) (args .pool .now) (args .change)) in
+    subst (λ (n : ℕ). (good ≡ true) ↔ fine (n + offset)) (c .slot .ensures) h
 
 returns : tie.Need-returns
-returns c = refused (λ f. not-both (ap (wellFormed 32) (prefix-there (c .before .before)) ∙ prefix-obeys ipv4 _ _ _ f .0) (sym (c .before .well-formed .ensures) ∙ not-true _ (c .if1 .taken)))
+returns c =
+    let formed = ap (wellFormed 32) (prefix-there (c .before .before)) in
+    let not-formed = sym (c .before .well-formed .ensures) ∙ not-true _ (c .if1 .taken) in
+    refused (λ f. not-both (formed ∙ prefix-obeys ipv4 _ _ _ f .0) not-formed)
 
 may-be-held-requires : tie.Need-may-be-held-requires
 may-be-held-requires c κs = search needs
 
 returns-2 : tie.Need-returns-2
-returns-2 c = refused (λ f. not-both (ap mayHold (prefix-there (c .before .before .before .before)) ∙ prefix-obeys ipv4 _ _ _ f .1) (sym (c .before .may-be-held .ensures) ∙ not-true _ (c .if2 .taken)))
+returns-2 c =
+    let held = ap mayHold (prefix-there (c .before .before .before .before)) in
+    let not-held = sym (c .before .may-be-held .ensures) ∙ not-true _ (c .if2 .taken) in
+    refused (λ f. not-both (held ∙ prefix-obeys ipv4 _ _ _ f .1) not-held)
 
 -- the prefix obeys
-obeyed : (c : tie.Else2) → Obeyed ipv4 (c .before .before .before .before .before .before .before .before .args .capacity) (c .before .before .before .before .before .before .before .before .args .pool .now) (c .before .before .before .before .before .before .before .before .args .change)
-obeyed c = (
-  sym (ap (wellFormed 32) (prefix-there (c .before .before .before .before))) ∙ sym (c .before .before .before .well-formed .ensures) ∙ not-false _ (c .before .before .if1 .left),
-  sym (ap mayHold (prefix-there (c .before .before .before .before))) ∙ sym (c .before .may-be-held .ensures) ∙ not-false _ (c .if2 .left),
-)
+obeyed : (c : tie.Else2) →
+    let args = c .before .before .before .before .before .before .before .before .args in
+    Obeyed ipv4 (args .capacity) (args .pool .now) (args .change)
+obeyed c =
+    let else1 = c .before .before in
+    let after-well-formed = else1 .before in
+    let after-prefix-at = after-well-formed .before in (
+      sym (ap (wellFormed 32) (prefix-there after-prefix-at)) ∙ sym (after-well-formed .well-formed .ensures) ∙ not-false _ (else1 .if1 .left),
+      sym (ap mayHold (prefix-there after-prefix-at)) ∙ sym (c .before .may-be-held .ensures) ∙ not-false _ (c .if2 .left),
+    )
 
 add-hop-is-good : tie.Need-add-hop-is-good
 add-hop-is-good c = search needs
@@ -65,10 +99,11 @@ hop-is-good-requires c κs = search needs
 
 returns-3 : tie.Need-returns-3
 returns-3 c =
-    let a = c .before .before .before .before .before .before .before .before .before .before .args in
-    let e = sym (action-there (c .before .before .before .before .before .before)) ∙ c .before .if3 .taken in
-    let h = subst (λ (n : ℕ). (c .hop-is-good .result ≡ true) ↔ PayloadFine ipv4 (a .pool .now) (changedAt ipv4 (a .capacity) (a .pool .now) (a .change)) (n + 6)) (c .before .before .before .before .before .before .before .before .slot .ensures) (c .hop-is-good .ensures _) in
-    (λ t. add-fine ipv4 _ _ _ e (obeyed (c .before .before)) (h .0 t), λ f. h .1 (fine-add ipv4 _ _ _ e f))
+    let else2 = c .before .before in
+    let after-prefix-at = else2 .before .before .before .before in
+    let action = sym (action-there after-prefix-at) ∙ c .before .if3 .taken in
+    let fine = hop-fine (after-prefix-at .before .before) (c .hop-is-good .result) 6 (c .hop-is-good .ensures _) in
+    (λ t. add-fine ipv4 _ _ _ action (obeyed else2) (fine .0 t), λ f. fine .1 (fine-add ipv4 _ _ _ action f))
 
 add-hop-is-good-2 : tie.Need-add-hop-is-good-2
 add-hop-is-good-2 c = search needs
@@ -78,15 +113,18 @@ hop-is-good-requires-2 c κs = search needs
 
 returns-4 : tie.Need-returns-4
 returns-4 c =
-    let a = c .before .before .before .before .before .before .before .before .before .before .before .args in
-    let e = sym (action-there (c .before .before .before .before .before .before .before)) ∙ c .before .if4 .taken in
-    let h = subst (λ (n : ℕ). (c .hop-is-good2 .result ≡ true) ↔ PayloadFine ipv4 (a .pool .now) (changedAt ipv4 (a .capacity) (a .pool .now) (a .change)) (n + 3)) (c .before .before .before .before .before .before .before .before .before .slot .ensures) (c .hop-is-good2 .ensures _) in
-    (λ t. delete-fine ipv4 _ _ _ e (obeyed (c .before .before .before)) (h .0 t), λ f. h .1 (fine-delete ipv4 _ _ _ e f))
+    let else2 = c .before .before .before in
+    let after-prefix-at = else2 .before .before .before .before in
+    let action = sym (action-there after-prefix-at) ∙ c .before .if4 .taken in
+    let fine = hop-fine (after-prefix-at .before .before) (c .hop-is-good2 .result) 3 (c .hop-is-good2 .ensures _) in
+    (λ t. delete-fine ipv4 _ _ _ action (obeyed else2) (fine .0 t), λ f. fine .1 (fine-delete ipv4 _ _ _ action f))
 
 returns-5 : tie.Need-returns-5
 returns-5 c =
-    let e = action-there (c .before .before .before .before .before .before .before) in
-    refused (λ f. action-known ipv4 _ _ _ (λ q. c .before .before .if3 .left (e ∙ q)) (λ q. c .before .if4 .left (e ∙ q)) (λ q. c .if5 .taken (e ∙ q)) f)
+    let else3 = c .before .before in
+    let after-prefix-at = else3 .before .before .before .before .before in
+    let e = action-there after-prefix-at in
+    refused (λ f. action-known ipv4 _ _ _ (λ q. else3 .if3 .left (e ∙ q)) (λ q. c .before .if4 .left (e ∙ q)) (λ q. c .if5 .taken (e ∙ q)) f)
 
 add-hop-is-good-3 : tie.Need-add-hop-is-good-3
 add-hop-is-good-3 c = search needs
@@ -96,10 +134,12 @@ hop-is-good-requires-3 c κs = search needs
 
 returns-6 : tie.Need-returns-6
 returns-6 c =
-    let a = c .before .before .before .before .before .before .before .before .before .before .before .before .before .args in
-    let e = sym (action-there (c .before .before .before .before .before .before .before .before .before)) ∙ c .before .before .if5 .left in
-    let h = subst (λ (n : ℕ). (c .before .hop-is-good3 .result ≡ true) ↔ PayloadFine ipv4 (a .pool .now) (changedAt ipv4 (a .capacity) (a .pool .now) (a .change)) (n + 3)) (c .before .before .before .before .before .before .before .before .before .before .before .slot .ensures) (c .before .hop-is-good3 .ensures _) in
-    refused (λ f. not-both (h .1 (fine-change ipv4 _ _ _ e f .0)) (not-true _ (c .if6 .taken)))
+    let else5 = c .before .before in
+    let after-prefix-at = else5 .before .before .before .before .before .before .before in
+    let action = sym (action-there after-prefix-at) ∙ else5 .if5 .left in
+    let old = c .before .hop-is-good3 in
+    let old-fine = hop-fine (after-prefix-at .before .before) (old .result) 3 (old .ensures _) in
+    refused (λ f. not-both (old-fine .1 (fine-change ipv4 _ _ _ action f .0)) (not-true _ (c .if6 .taken)))
 
 add-hop-is-good-4 : tie.Need-add-hop-is-good-4
 add-hop-is-good-4 c = search needs
@@ -109,11 +149,18 @@ hop-is-good-requires-4 c κs = search needs
 
 returns-7 : tie.Need-returns-7
 returns-7 c =
-    let a = c .before .before .before .before .before .before .before .before .before .before .before .before .before .before .args in
-    let e = sym (action-there (c .before .before .before .before .before .before .before .before .before .before)) ∙ c .before .before .before .if5 .left in
-    let h = subst (λ (n : ℕ). (c .before .before .hop-is-good3 .result ≡ true) ↔ PayloadFine ipv4 (a .pool .now) (changedAt ipv4 (a .capacity) (a .pool .now) (a .change)) (n + 3)) (c .before .before .before .before .before .before .before .before .before .before .before .before .slot .ensures) (c .before .before .hop-is-good3 .ensures _) in
-    let g = subst (λ (n : ℕ). (c .hop-is-good4 .result ≡ true) ↔ PayloadFine ipv4 (a .pool .now) (changedAt ipv4 (a .capacity) (a .pool .now) (a .change)) (n + 6)) (c .before .before .before .before .before .before .before .before .before .before .before .before .slot .ensures) (c .hop-is-good4 .ensures _) in
-    (λ t. change-fine ipv4 _ _ _ e (obeyed (c .before .before .before .before .before .before)) (h .0 (not-false _ (c .before .if6 .left))) (g .0 t), λ f. g .1 (fine-change ipv4 _ _ _ e f .1))
+    let after-hop-is-good3 = c .before .before in
+    let else5 = after-hop-is-good3 .before in
+    let else2 = else5 .before .before .before in
+    let after-prefix-at = else2 .before .before .before .before in
+    let after-slot = after-prefix-at .before .before in
+    let action = sym (action-there after-prefix-at) ∙ else5 .if5 .left in
+    let old = after-hop-is-good3 .hop-is-good3 in
+    let new = c .hop-is-good4 in
+    let old-fine = hop-fine after-slot (old .result) 3 (old .ensures _) in
+    let new-fine = hop-fine after-slot (new .result) 6 (new .ensures _) in
+    let old-good = old-fine .0 (not-false _ (c .before .if6 .left)) in
+    (λ t. change-fine ipv4 _ _ _ action (obeyed else2) old-good (new-fine .0 t), λ f. new-fine .1 (fine-change ipv4 _ _ _ action f .1))
 
 pub change-is-good-spec : {M : Type 1} → statement M
 change-is-good-spec =

@@ -1,3 +1,4 @@
+-- A kind below 1 or above 3 refuses the words; else the hop that they spell is good exactly when `is_good` says so.
 use mathlib.Core.Path.{sym, ap, _∙_}
 use native.Mathlib.Omega.{arith}
 use Rattle.model.specs.Ipv4.{goodHop}

@@ -1,3 +1,5 @@
+-- The loop's invariant (`Turned`): whether the change's prefix is held at its turn is whether it is held once those from `newer` on are taken back.
+-- A newer change of the same prefix says it by its action (`turned-same`); past the newest, the table does (`turned-table`).
 use Prim.Native.Nat.{ℕ, _+_, _-_, _≤_}
 use mathlib.Core.Path.{_≡_, sym, ap, subst, _∙_}
 use mathlib.Core.Bool.{not}
@@ -53,20 +55,39 @@ shared-slice-read-result : tie.Need-shared-slice-read-result Inv-loop μ-loop
 shared-slice-read-result c = omega arith
 
 -- the prefix is the slot's, and so is each newer one that it is compared with
-own : (c : tie.After-prefix-at Inv-loop μ-loop) → prefixOf (c .prefix-at .result) ≡ changedAt ipv4 (c .before .before .before .args .capacity) (c .before .before .before .args .pool .now) (c .before .before .before .args .change)
-own c = c .prefix-at .ensures ∙ ap (λ (n : ℕ). prefixAt ipv4 (c .before .before .before .args .pool .now) (n + 1)) (c .before .slot .ensures)
+own : (c : tie.After-prefix-at Inv-loop μ-loop) →
+    let args = c .before .before .before .args in
+    prefixOf (c .prefix-at .result) ≡ changedAt ipv4 (args .capacity) (args .pool .now) (args .change)
+own c =
+    let start = c .before .before .before in
+    c .prefix-at .ensures ∙ ap (λ (n : ℕ). prefixAt ipv4 (start .args .pool .now) (n + 1)) (c .before .slot .ensures)
 
-compared : (c : tie.After-is Inv-loop μ-loop)
-    → c .is .result ≡ same (changedAt ipv4 (c .before .before .before .before .before .before .before .before .args .capacity) (c .before .before .before .before .before .before .before .before .args .pool .now) (c .before .before .before .before .before .before .before .before .args .change)) (changedAt ipv4 (c .before .before .before .before .before .before .before .before .args .capacity) (c .before .before .before .before .before .before .before .before .args .pool .now) (c .before .before .before .before .loop .newer))
+compared : (c : tie.After-is Inv-loop μ-loop) →
+    let at-loop = c .before .before .before .before in
+    let args = at-loop .before .before .before .before .args in
+    let prefix-of = changedAt ipv4 (args .capacity) (args .pool .now) in
+    c .is .result ≡ same (prefix-of (args .change)) (prefix-of (at-loop .loop .newer))
 compared c =
-    let w = c .before .before .before .before .before .before .before .before .args in
-    let other = c .before .prefix-at2 .ensures ∙ ap (λ (n : ℕ). prefixAt ipv4 (w .pool .now) (n + 1)) (c .before .before .slot2 .ensures) in
-    c .is .ensures ∙ ap (λ (p : Prefix). same p (prefixOf (c .before .prefix-at2 .result))) (own (c .before .before .before .before .before)) ∙ ap (same (changedAt ipv4 (w .capacity) (w .pool .now) (w .change))) other
+    let after-slot2 = c .before .before in
+    let after-prefix-at = after-slot2 .before .before .before in
+    let args = after-prefix-at .before .before .before .args in
+    let read = c .before .prefix-at2 in
+    let other = read .ensures ∙ ap (λ (n : ℕ). prefixAt ipv4 (args .pool .now) (n + 1)) (after-slot2 .slot2 .ensures) in
+    c .is .ensures
+    ∙ ap (λ (p : Prefix). same p (prefixOf (read .result))) (own after-prefix-at)
+    ∙ ap (same (changedAt ipv4 (args .capacity) (args .pool .now) (args .change))) other
 
 returns : tie.Need-returns Inv-loop μ-loop
 returns c =
-    subst (λ (n : ℕ). ThereSays ipv4 (c .before .before .before .before .before .before .before .before .before .before .args .capacity) (c .before .before .before .before .before .before .before .before .before .before .args .pool .now) (c .before .before .before .before .before .before .before .before .before .before .args .standing) (c .before .before .before .before .before .before .before .before .before .before .args .change) (not (eqb (word (c .before .before .before .before .before .before .before .before .before .before .args .pool .now) n) 1))) (sym (c .before .before .before .before .slot2 .ensures))
-    (turned-same ipv4 _ _ _ _ (c .before .before .before .before .before .before .loop .newer) (c .before .before .before .before .before .loop-test .taken) (sym (compared (c .before .before)) ∙ c .before .if1 .taken) (c .before .before .before .before .before .before .loop .inv .1))
+    let after-is = c .before .before in
+    let after-slot2 = after-is .before .before in
+    let in-loop = after-slot2 .before in
+    let loop = in-loop .before .loop in
+    let args = in-loop .before .before .before .before .before .args in
+    let equal = sym (compared after-is) ∙ c .before .if1 .taken in
+    subst (λ (n : ℕ). ThereSays ipv4 (args .capacity) (args .pool .now) (args .standing) (args .change) (not (eqb (word (args .pool .now) n) 1)))
+    (sym (after-slot2 .slot2 .ensures))
+    (turned-same ipv4 _ _ _ _ (loop .newer) (in-loop .loop-test .taken) equal (loop .inv .1))
 
 add-newer-2 : tie.Need-add-newer-2 Inv-loop μ-loop
 add-newer-2 c = omega arith
@@ -75,7 +96,11 @@ loop-less : tie.Need-loop-less Inv-loop μ-loop
 loop-less c = omega arith
 
 loop-again : tie.Need-loop-again Inv-loop μ-loop
-loop-again c = (omega arith, turned-other ipv4 _ _ _ _ (c .before .before .before .before .before .loop .newer) (c .before .before .before .before .loop-test .taken) (sym (compared (c .before)) ∙ c .if1 .left) (c .before .before .before .before .before .loop .inv .1))
+loop-again c =
+    let in-loop = c .before .before .before .before in
+    let loop = in-loop .before .loop in
+    let other = sym (compared (c .before)) ∙ c .if1 .left in
+    (omega arith, turned-other ipv4 _ _ _ _ (loop .newer) (in-loop .loop-test .taken) other (loop .inv .1))
 
 find-requires : tie.Need-find-requires Inv-loop μ-loop
 find-requires c κs = search needs
@@ -84,7 +109,12 @@ is-at-requires : tie.Need-is-at-requires Inv-loop μ-loop
 is-at-requires c κs = search needs
 
 returns-2 : tie.Need-returns-2 Inv-loop μ-loop
-returns-2 c = turned-table ipv4 _ _ _ _ (c .before .before .before .loop .newer) (c .before .before .loop-test .left) (c .before .before .before .loop .inv .1) _ (own (c .before .before .before .before)) (c .before .find .result) (c .before .find .ensures) _ (c .is-at .ensures)
+returns-2 c =
+    let after-loop = c .before .before in
+    let at-loop = after-loop .before in
+    let after-prefix-at = at-loop .before in
+    turned-table ipv4 _ _ _ _ (at-loop .loop .newer) (after-loop .loop-test .left) (at-loop .loop .inv .1) _ (own after-prefix-at)
+    (c .before .find .result) (c .before .find .ensures) _ (c .is-at .ensures)
 
 pub is-there-spec : {M : Type 1} → statement M
 is-there-spec =
