@@ -1,3 +1,4 @@
+-- `write_route` writes the row, and the two words behind it, the root and the count, are two writes more: `two-more`.
 use Rattle.pool.specs.Layout.{word}
 use Prim.Native.Nat.{ℕ, _+_}
 use mathlib.Core.Path.{ap, _∙_}
@@ -27,16 +28,19 @@ add-pool : tie.Need-add-pool
 add-pool c = search needs
 
 slice-write-pool-2 : tie.Need-slice-write-pool-2
-slice-write-pool-2 c = simp length-set (omega (arith, c .before .before .before .write-route .kept .0))
+slice-write-pool-2 c = simp length-set (omega arith)
 
 same-length : tie.Need-same-length
 same-length c = search needs
 
 returns : tie.Need-returns
 returns c =
-    let a = c .before .before .before .before .before .before .before .args in
-    ap (λ (v : ℕ). set (set (c .before .before .before .write-route .last .0) 2 v) 1 (word (c .before .before .before .before .before .before .before .args .pool .now) 1 + 1)) (c .route-link .ensures)
-    ∙ two-more (a .pool .now) (c .before .before .before .write-route .last .0) (routeWrites ipv4 (a .place .0) (routeOf (a .route)) 0) 2 _ 1 _ (c .before .before .before .write-route .ensures)
+    let filled = c .before .before .before in
+    let args = filled .before .before .before .before .args in
+    let row = filled .write-route in
+    let entered = routeWrites ipv4 (args .place .0) (routeOf (args .route)) 0 in
+    ap (λ (v : ℕ). set (set (row .last .0) 2 v) 1 (word (args .pool .now) 1 + 1)) (c .route-link .ensures)
+    ∙ two-more (args .pool .now) (row .last .0) entered 2 _ 1 _ (row .ensures)
 
 pub put-first-spec : {M : Type 1} → statement M
 put-first-spec =

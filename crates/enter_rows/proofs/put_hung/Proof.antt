@@ -1,3 +1,5 @@
+-- `write_route` writes the row before the one that the cell led to, and the two words behind it, the cell and the count,
+-- are two writes more: `two-more`.
 use Prim.Native.Nat.{ℕ, _+_}
 use mathlib.Core.Path.{ap, _∙_}
 use lib.ListN.{set}
@@ -44,9 +46,12 @@ same-length c = search needs
 
 returns : tie.Need-returns
 returns c =
-    let a = c .before .before .before .before .before .before .before .before .args in
-    ap (λ (v : ℕ). set (set (c .before .before .before .write-route .last .0) (a .cell) v) 1 (word (a .pool .now) 1 + 1)) (c .route-link .ensures)
-    ∙ two-more (a .pool .now) (c .before .before .before .write-route .last .0) (routeWrites ipv4 (a .place .0) (routeOf (a .route)) (word (a .pool .now) (a .cell))) (a .cell) _ 1 _ (c .before .before .before .write-route .ensures)
+    let filled = c .before .before .before in
+    let args = filled .before .before .before .before .before .args in
+    let row = filled .write-route in
+    let entered = routeWrites ipv4 (args .place .0) (routeOf (args .route)) (word (args .pool .now) (args .cell)) in
+    ap (λ (v : ℕ). set (set (row .last .0) (args .cell) v) 1 (word (args .pool .now) 1 + 1)) (c .route-link .ensures)
+    ∙ two-more (args .pool .now) (row .last .0) entered (args .cell) _ 1 _ (row .ensures)
 
 pub put-hung-spec : {M : Type 1} → statement M
 put-hung-spec =

@@ -1,3 +1,5 @@
+-- The route's row, the inner row with its two sides, the cell and the count, each as its own writer says, are the writes
+-- of a join: `join-row`. Writes keep the length: `length-writes`.
 use mathlib.Core.Path.{ap, _∙_}
 use lib.ListN.{length}
 use Rattle.route.specs.Means.{routeOf}
@@ -10,6 +12,16 @@ use lib.ListN.{length-set}
 use borrow.Author.Needs.{needs}
 use Rattle.enter_rows.proofs.put_joined.Statement.{statement}
 use Rattle.enter_rows.proofs.put_joined.Tie as tie
+
+-- Where the inner row was written, where the route's row was, and where the call starts.
+abbrev inner-filled : tie.After-inner-link → tie.After-write-inner
+inner-filled c = c .before .before .before
+
+abbrev row-filled : tie.After-write-inner → tie.After-write-route
+row-filled c = c .before .before .before .before
+
+abbrev start : tie.After-route-link → tie.Start
+start c = c .before .before .before .before .before
 
 slice-read-count : tie.Need-slice-read-count
 slice-read-count c = search needs
@@ -49,14 +61,22 @@ slice-write-pool-2 c = simp length-set (omega arith)
 
 returns : tie.Need-returns
 returns c =
-    let a = c .before .before .before .before .before .before .before .before .before .before .before .before .before .before .before .args in
-    join-row ipv4 (a .pool .now) (c .before .before .before .before .before .before .before .write-route .last .0) (c .before .before .before .write-inner .last .0) (a .capacity) (a .place .0) (a .inner .0) (a .index) (a .cell) (routeOf (a .route)) (c .before .before .before .before .before .before .before .before .before .before .route-link .result) (c .before .before .before .before .before .before .before .before .before .sides .result .0) (c .before .before .before .before .before .before .before .before .before .sides .result .1) (c .inner-link .result)
-    (c .before .before .before .before .before .before .before .before .before .before .route-link .ensures) (c .before .before .before .before .before .before .before .before .before .sides .ensures .0) (c .before .before .before .before .before .before .before .before .before .sides .ensures .1) (c .inner-link .ensures) (c .before .before .before .before .before .before .before .write-route .ensures) (c .before .before .before .write-inner .ensures)
+    let inner = inner-filled c in
+    let row = row-filled inner in
+    let sided = row .before .before in
+    let linked = sided .before in
+    let args = start linked .args in
+    join-row ipv4 (args .pool .now) (row .write-route .last .0) (inner .write-inner .last .0) (args .capacity)
+    (args .place .0) (args .inner .0) (args .index) (args .cell) (routeOf (args .route)) (linked .route-link .result)
+    (sided .sides .result .0) (sided .sides .result .1) (c .inner-link .result)
+    (linked .route-link .ensures) (sided .sides .ensures .0) (sided .sides .ensures .1) (c .inner-link .ensures)
+    (row .write-route .ensures) (inner .write-inner .ensures)
 
 same-length : tie.Need-same-length
 same-length c =
-    let a = c .before .before .before .before .before .before .before .before .before .before .before .before .before .before .before .args in
-    ap length (returns c) ∙ length-writes (joinWrites ipv4 (a .pool .now) (a .capacity) (a .place .0) (a .inner .0) (routeOf (a .route)) (a .index) (a .cell)) (a .pool .now)
+    let args = start (row-filled (inner-filled c) .before .before .before) .args in
+    let entered = joinWrites ipv4 (args .pool .now) (args .capacity) (args .place .0) (args .inner .0) (routeOf (args .route)) in
+    ap length (returns c) ∙ length-writes (entered (args .index) (args .cell)) (args .pool .now)
 
 pub put-joined-spec : {M : Type 1} → statement M
 put-joined-spec =

@@ -1,3 +1,4 @@
+-- The three words of an inner row are written from the place that `joint` says.
 use native.Mathlib.Omega.{arith}
 use lib.ListN.{length-set}
 use borrow.Author.Needs.{needs}

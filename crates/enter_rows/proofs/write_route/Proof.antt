@@ -1,3 +1,5 @@
+-- The hop, the prefix and the link of a row, written from the place that `seat` says, are its writes: `route-row`.
+-- Writes keep the length: `length-writes`.
 use mathlib.Core.Path.{ap, _∙_}
 use lib.ListN.{length}
 use Rattle.route.specs.Means.{hopOf, prefixOf, routeOf}
@@ -8,6 +10,16 @@ use Rattle.rows.proofs.Rows.{route-row}
 use borrow.Author.Needs.{needs}
 use Rattle.enter_rows.proofs.write_route.Statement.{statement}
 use Rattle.enter_rows.proofs.write_route.Tie as tie
+
+-- Where the hop was written, where the place was told, and where the call starts.
+abbrev hop-filled : tie.After-write-prefix → tie.After-write-hop
+hop-filled c = c .before .before .before .before
+
+abbrev seated-at : tie.After-write-hop → tie.After-seat
+seated-at c = c .before .before .before
+
+abbrev start : tie.After-seat → tie.Start
+start c = c .before .before
 
 seat-requires : tie.Need-seat-requires
 seat-requires c κs = search needs
@@ -32,12 +44,19 @@ slice-write-pool c = search needs
 
 returns : tie.Need-returns
 returns c =
-    let a = c .before .before .before .before .before .before .before .before .before .before .before .args in
-    route-row ipv4 (a .pool .now) (c .before .before .before .before .before .before .write-hop .last .0) (c .before .before .write-prefix .last .0) (a .place .0) (c .before .before .before .before .before .before .before .before .before .seat .result) (hopOf (a .route .hop)) (prefixOf (a .route .prefix)) (a .next)
-    (c .before .before .before .before .before .before .before .before .before .seat .ensures) (c .before .before .before .before .before .before .write-hop .ensures) (c .before .before .write-prefix .ensures)
+    let prefixed = c .before .before in
+    let hopped = hop-filled prefixed in
+    let seated = seated-at hopped in
+    let args = start seated .args in
+    route-row ipv4 (args .pool .now) (hopped .write-hop .last .0) (prefixed .write-prefix .last .0) (args .place .0) (seated .seat .result)
+    (hopOf (args .route .hop)) (prefixOf (args .route .prefix)) (args .next)
+    (seated .seat .ensures) (hopped .write-hop .ensures) (prefixed .write-prefix .ensures)
 
 same-length : tie.Need-same-length
-same-length c = ap length (returns c) ∙ length-writes (routeWrites ipv4 (c .before .before .before .before .before .before .before .before .before .before .before .args .place .0) (routeOf (c .before .before .before .before .before .before .before .before .before .before .before .args .route)) (c .before .before .before .before .before .before .before .before .before .before .before .args .next)) (c .before .before .before .before .before .before .before .before .before .before .before .args .pool .now)
+same-length c =
+    let prefixed = c .before .before in
+    let args = start (seated-at (hop-filled prefixed)) .args in
+    ap length (returns c) ∙ length-writes (routeWrites ipv4 (args .place .0) (routeOf (args .route)) (args .next)) (args .pool .now)
 
 pub write-route-spec : {M : Type 1} → statement M
 write-route-spec =
