@@ -1,3 +1,5 @@
+-- The action, the prefix, the two hops and the count, written from the place that `slot` says, are the writes of a record:
+-- `record-row`. Each writer keeps the length, and so do the writes: `length-writes`.
 use mathlib.Core.Path.{ap, _∙_}
 use lib.ListN.{length}
 use Rattle.route.specs.Means.{prefixOf, hopOf}
@@ -11,6 +13,16 @@ use lib.ListN.{length-set}
 use borrow.Author.Needs.{needs}
 use Rattle.trial_rows.proofs.record_change.Statement.{statement}
 use Rattle.trial_rows.proofs.record_change.Tie as tie
+
+-- Where the old hop was written, where the prefix was, and where the call starts.
+abbrev hop-filled : tie.After-write-hop2 → tie.After-write-hop
+hop-filled c = c .before .before .before .before
+
+abbrev prefix-filled : tie.After-write-hop → tie.After-write-prefix
+prefix-filled c = c .before .before .before .before
+
+abbrev start : tie.After-slot → tie.Start
+start c = c .before .before .before .before
 
 slice-read-standing : tie.Need-slice-read-standing
 slice-read-standing c = search needs
@@ -37,30 +49,48 @@ add-write-hop : tie.Need-add-write-hop
 add-write-hop c = search needs
 
 write-hop-requires : tie.Need-write-hop-requires
-write-hop-requires c κs = omega (arith, simp length-set at (c .before .before .before .write-prefix .kept .0))
+write-hop-requires c κs =
+    let prefixed = c .before .before .before in
+    omega (arith, simp length-set at (prefixed .write-prefix .kept .0))
 
 add-write-hop-2 : tie.Need-add-write-hop-2
 add-write-hop-2 c = search needs
 
 write-hop-requires-2 : tie.Need-write-hop-requires-2
-write-hop-requires-2 c κs = omega (arith, c .before .before .before .write-hop .kept .0, simp length-set at (c .before .before .before .before .before .before .before .write-prefix .kept .0))
+write-hop-requires-2 c κs =
+    let hopped = c .before .before .before in
+    let prefixed = prefix-filled hopped in
+    omega (arith, hopped .write-hop .kept .0, simp length-set at (prefixed .write-prefix .kept .0))
 
 add-pool : tie.Need-add-pool
 add-pool c = search needs
 
 slice-write-pool-2 : tie.Need-slice-write-pool-2
-slice-write-pool-2 c = omega (arith, c .before .before .write-hop2 .kept .0, c .before .before .before .before .before .before .write-hop .kept .0, simp length-set at (c .before .before .before .before .before .before .before .before .before .before .write-prefix .kept .0))
+slice-write-pool-2 c =
+    let rehopped = c .before .before in
+    let hopped = hop-filled rehopped in
+    let prefixed = prefix-filled hopped in
+    omega (arith, rehopped .write-hop2 .kept .0, hopped .write-hop .kept .0, simp length-set at (prefixed .write-prefix .kept .0))
 
 returns : tie.Need-returns
 returns c =
-    let a = c .before .before .before .before .before .before .before .before .before .before .before .before .before .before .before .before .args in
-    record-row ipv4 (a .pool .now) (c .before .before .before .before .before .before .before .before .before .before .write-prefix .last .0) (c .before .before .before .before .before .before .write-hop .last .0) (c .before .before .write-hop2 .last .0) (a .capacity) (word (a .pool .now) 4) (c .before .before .before .before .before .before .before .before .before .before .before .before .slot .result) (a .action)
-    (prefixOf (a .prefix)) (hopOf (a .old)) (hopOf (a .new)) (c .before .before .before .before .before .before .before .before .before .before .before .before .slot .ensures ∙ ap (ipv4 .slot (a .capacity)) (c .before .before .before .before .before .before .before .before .before .before .before .before .before .wide .ensures)) (c .before .before .before .before .before .before .before .before .before .before .write-prefix .ensures) (c .before .before .before .before .before .before .write-hop .ensures) (c .before .before .write-hop2 .ensures)
+    let rehopped = c .before .before in
+    let hopped = hop-filled rehopped in
+    let prefixed = prefix-filled hopped in
+    let slotted = prefixed .before .before in
+    let args = start slotted .args in
+    let place = slotted .slot .ensures ∙ ap (ipv4 .slot (args .capacity)) (slotted .before .wide .ensures) in
+    record-row ipv4 (args .pool .now) (prefixed .write-prefix .last .0) (hopped .write-hop .last .0) (rehopped .write-hop2 .last .0)
+    (args .capacity) (word (args .pool .now) 4) (slotted .slot .result) (args .action)
+    (prefixOf (args .prefix)) (hopOf (args .old)) (hopOf (args .new))
+    place (prefixed .write-prefix .ensures) (hopped .write-hop .ensures) (rehopped .write-hop2 .ensures)
 
 same-length : tie.Need-same-length
 same-length c =
-    let a = c .before .before .before .before .before .before .before .before .before .before .before .before .before .before .before .before .args in
-    ap length (returns c) ∙ length-writes (recordWrites ipv4 (a .capacity) (word (a .pool .now) 4) (a .action) (prefixOf (a .prefix)) (hopOf (a .old)) (hopOf (a .new))) (a .pool .now)
+    let prefixed = prefix-filled (hop-filled (c .before .before)) in
+    let args = start (prefixed .before .before) .args in
+    let recorded = recordWrites ipv4 (args .capacity) (word (args .pool .now) 4) (args .action) (prefixOf (args .prefix)) in
+    ap length (returns c) ∙ length-writes (recorded (hopOf (args .old)) (hopOf (args .new))) (args .pool .now)
 
 pub record-change-spec : {M : Type 1} → statement M
 record-change-spec =
