@@ -1,3 +1,5 @@
+-- The invariant: every place below is used. A place whose mark is 0 is free by the branch taken, any other is one more
+-- below, `below-more`, and at the end none is free, which the caller rules out.
 use Prim.Native.Nat.{ℕ, _-_, _≤_, _<_}
 use mathlib.Core.Path.{sym, _∙_}
 use native.Mathlib.Omega.{arith}
@@ -30,10 +32,14 @@ loop-less : tie.Need-loop-less Inv-loop μ-loop
 loop-less c = search needs
 
 loop-again : tie.Need-loop-again Inv-loop μ-loop
-loop-again c = (search needs, below-more _ _ (c .before .before .before .loop .inv .1) (omega (arith, c .before .mark-of .ensures, c .if1 .left)))
+loop-again c =
+    let below = c .before .before .before .loop .inv .1 in
+    (search needs, below-more _ _ below (omega (arith, c .before .mark-of .ensures, c .if1 .left)))
 
 returns-2 : tie.Need-returns-2 Inv-loop μ-loop
-returns-2 c = absurd (c .before .before .before .pre .1 (λ k l. c .before .loop .inv .1 k (omega arith)))
+returns-2 c =
+    let at-loop = c .before in
+    absurd (at-loop .before .before .pre .1 (λ k l. at-loop .loop .inv .1 k (omega arith)))
 
 pub free-spec : {M : Type 1} → statement M
 free-spec =

@@ -1,3 +1,4 @@
+-- Each arm knows the sort, and reads the word that is the mark of a place of that sort.
 use mathlib.Core.Path.{sym, ap, _∙_}
 use borrow.Author.Needs.{needs}
 use Rattle.pool.specs.Ipv4.{ipv4}
@@ -19,10 +20,16 @@ mark-at-requires : tie.Need-mark-at-requires
 mark-at-requires c κs = search needs
 
 returns : tie.Need-returns
-returns c = c .kind-at .ensures ∙ ap (λ (s : Sort). markOf ipv4 (c .before .before .before .before .args .capacity) (c .before .before .before .before .args .pool .now) s (c .before .before .before .before .args .place .0)) (sym (c .before .enum-told .given .1))
+returns c =
+    let args = c .before .before .before .before .args in
+    c .kind-at .ensures
+    ∙ ap (λ (s : Sort). markOf ipv4 (args .capacity) (args .pool .now) s (args .place .0)) (sym (c .before .enum-told .given .1))
 
 returns-2 : tie.Need-returns-2
-returns-2 c = c .mark-at .ensures ∙ ap (λ (s : Sort). markOf ipv4 (c .before .before .before .before .args .capacity) (c .before .before .before .before .args .pool .now) s (c .before .before .before .before .args .place .0)) (sym (c .before .enum-told2 .given .1))
+returns-2 c =
+    let args = c .before .before .before .before .args in
+    c .mark-at .ensures
+    ∙ ap (λ (s : Sort). markOf ipv4 (args .capacity) (args .pool .now) s (args .place .0)) (sym (c .before .enum-told2 .given .1))
 
 pub mark-of-spec : {M : Type 1} → statement M
 mark-of-spec =
