@@ -1,3 +1,4 @@
+-- `write_hop` writes the new hop from the place that `seat` says.
 use Prim.Native.Nat.{ℕ}
 use mathlib.Core.Path.{ap, _∙_}
 use Rattle.route.specs.Means.{hopOf}
@@ -17,7 +18,12 @@ same-length : tie.Need-same-length
 same-length c = search needs
 
 returns : tie.Need-returns
-returns c = c .before .before .write-hop .ensures ∙ ap (λ (n : ℕ). writes (hopWrites n (hopOf (c .before .before .before .before .before .before .args .hop))) (c .before .before .before .before .before .before .args .pool .now)) (c .before .before .before .before .seat .ensures)
+returns c =
+    let written = c .before .before in
+    let seated = written .before .before in
+    let args = seated .before .before .args in
+    written .write-hop .ensures
+    ∙ ap (λ (n : ℕ). writes (hopWrites n (hopOf (args .hop))) (args .pool .now)) (seated .seat .ensures)
 
 pub swap-hop-spec : {M : Type 1} → statement M
 swap-hop-spec = tie.close (tie.spec seat-requires write-hop-requires same-length returns)

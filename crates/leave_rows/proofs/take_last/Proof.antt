@@ -1,3 +1,4 @@
+-- Three words are written: the root, the row's kind at the place that `seat` says, and the count.
 use native.Mathlib.Omega.{arith}
 use lib.ListN.{length-set}
 use borrow.Author.Needs.{needs}

@@ -1,3 +1,5 @@
+-- Four words are written: the cell above, the inner row's mark where `joint` says, the route's kind where `seat` says,
+-- and the count.
 use native.Mathlib.Omega.{arith}
 use lib.ListN.{length-set}
 use borrow.Author.Needs.{needs}

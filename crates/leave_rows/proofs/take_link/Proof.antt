@@ -1,3 +1,4 @@
+-- Three words are written: the cell, which links past the row, the row's kind where `seat` says, and the count.
 use native.Mathlib.Omega.{arith}
 use lib.ListN.{length-set}
 use borrow.Author.Needs.{needs}
