@@ -1,3 +1,4 @@
+-- The word 0 is no link, `link-nothing`; an odd one leads to a route, `link-odd`, and an even one to an inner row, `link-even`.
 use mathlib.Core.Path.{sym}
 use Rattle.pool.proofs.Words.{link-nothing, link-odd, link-even}
 use borrow.Author.Needs.{needs}

@@ -1,3 +1,4 @@
+-- By the word of the kind: 1 is `hop-direct`, 2 is `hop-via`, and any other `hop-reject`.
 use Rattle.pool.proofs.Words.{hop-direct, hop-via, hop-reject}
 use borrow.Author.Needs.{needs}
 use Rattle.pool.proofs.readers.hop_at.Statement.{statement}
@@ -19,7 +20,10 @@ shared-slice-read-t11 : tie.Need-shared-slice-read-t11
 shared-slice-read-t11 c = search needs
 
 returns : tie.Need-returns
-returns c = hop-direct (c .before .before .before .args .pool .now) (c .before .before .before .args .at) (c .before .if1 .taken)
+returns c =
+    let told = c .before in
+    let args = told .before .before .args in
+    hop-direct (args .pool .now) (args .at) (told .if1 .taken)
 
 add-t13 : tie.Need-add-t13
 add-t13 c = search needs
@@ -40,10 +44,16 @@ shared-slice-read-t21 : tie.Need-shared-slice-read-t21
 shared-slice-read-t21 c = search needs
 
 returns-2 : tie.Need-returns-2
-returns-2 c = hop-via (c .before .before .before .before .before .args .pool .now) (c .before .before .before .before .before .args .at) (c .before .before .if2 .taken)
+returns-2 c =
+    let told = c .before .before in
+    let args = told .before .before .before .args in
+    hop-via (args .pool .now) (args .at) (told .if2 .taken)
 
 returns-3 : tie.Need-returns-3
-returns-3 c = hop-reject (c .before .before .before .args .pool .now) (c .before .before .before .args .at) (c .before .if1 .left) (c .if2 .left)
+returns-3 c =
+    let else1 = c .before in
+    let args = else1 .before .before .args in
+    hop-reject (args .pool .now) (args .at) (else1 .if1 .left) (c .if2 .left)
 
 pub hop-at-spec : {M : Type 1} → statement M
 hop-at-spec =

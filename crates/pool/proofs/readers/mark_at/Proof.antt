@@ -1,3 +1,4 @@
+-- The word is read at the place that `joint` says.
 use Prim.Native.Nat.{ℕ}
 use mathlib.Core.Path.{ap}
 use lib.ListN.{getD}
@@ -15,7 +16,9 @@ shared-slice-read-result : tie.Need-shared-slice-read-result
 shared-slice-read-result c = search needs
 
 returns : tie.Need-returns
-returns c = ap (λ (n : ℕ). getD (c .before .before .before .args .pool .now) n 0) (c .before .joint .ensures)
+returns c =
+    let pool = c .before .before .before .args .pool .now in
+    ap (λ (n : ℕ). getD pool n 0) (c .before .joint .ensures)
 
 pub mark-at-spec : {M : Type 1} → statement M
 mark-at-spec = tie.close (tie.spec joint-requires mul-result shared-slice-read-result returns)

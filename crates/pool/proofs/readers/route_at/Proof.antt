@@ -1,3 +1,4 @@
+-- The prefix and the hop are read at the place that `seat` says, and are the two fields of the route.
 use Prim.Native.Nat.{ℕ, _+_}
 use mathlib.Core.Path.{ap, _∙_}
 use Rattle.pool.specs.Layout.{prefixAt}
@@ -20,9 +21,11 @@ hop-at-requires c κs = search needs
 
 returns : tie.Need-returns
 returns c =
-    let a = c .before .before .before .before .args in
-    let p = c .before .prefix-at .ensures ∙ ap (λ (n : ℕ). prefixAt ipv4 (a .pool .now) (n + ipv4 .prefixOffset)) (c .before .before .seat .ensures) in
-    let h = c .hop-at .ensures ∙ ap (hopAt (a .pool .now)) (c .before .before .seat .ensures) in
+    let seated = c .before .before in
+    let pool = seated .before .before .args .pool .now in
+    let seat = seated .seat .ensures in
+    let p = c .before .prefix-at .ensures ∙ ap (λ (n : ℕ). prefixAt ipv4 pool (n + ipv4 .prefixOffset)) seat in
+    let h = c .hop-at .ensures ∙ ap (hopAt pool) seat in
     λ i. record { prefix = p i; payload = h i }
 
 pub route-at-spec : {M : Type 1} → statement M

@@ -1,3 +1,4 @@
+-- Each arm knows the hop, and writes the three words of its kind, which are `hopWrites` at that hop.
 use mathlib.Core.Path.{sym, ap}
 use native.Mathlib.Omega.{arith}
 use lib.ListN.{length-set}
@@ -94,19 +95,25 @@ same-length : tie.Need-same-length
 same-length c = search needs
 
 returns : tie.Need-returns
-returns c = ap (λ (h : Hop). writes (hopWrites (c .before .before .before .args .at) (hopOf h)) (c .before .before .before .args .pool .now)) (sym (c .before .hop .given .1))
+returns c =
+    let args = c .before .before .before .args in
+    ap (λ (h : Hop). writes (hopWrites (args .at) (hopOf h)) (args .pool .now)) (sym (c .before .hop .given .1))
 
 same-length-2 : tie.Need-same-length-2
 same-length-2 c = search needs
 
 returns-2 : tie.Need-returns-2
-returns-2 c = ap (λ (h : Hop). writes (hopWrites (c .before .before .before .args .at) (hopOf h)) (c .before .before .before .args .pool .now)) (sym (c .before .hop2 .given .1))
+returns-2 c =
+    let args = c .before .before .before .args in
+    ap (λ (h : Hop). writes (hopWrites (args .at) (hopOf h)) (args .pool .now)) (sym (c .before .hop2 .given .1))
 
 same-length-3 : tie.Need-same-length-3
 same-length-3 c = search needs
 
 returns-3 : tie.Need-returns-3
-returns-3 c = ap (λ (h : Hop). writes (hopWrites (c .before .before .args .at) (hopOf h)) (c .before .before .args .pool .now)) (sym (c .enum-told .given .1))
+returns-3 c =
+    let args = c .before .before .args in
+    ap (λ (h : Hop). writes (hopWrites (args .at) (hopOf h)) (args .pool .now)) (sym (c .enum-told .given .1))
 
 pub write-hop-spec : {M : Type 1} → statement M
 write-hop-spec =
