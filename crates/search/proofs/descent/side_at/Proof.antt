@@ -1,3 +1,4 @@
+-- The bit is 0 or 1, and by it the left link or the right one is read: `take-left`, `take-right`.
 use mathlib.Core.Path.{sym, _∙_}
 use Rattle.bits.proofs.First.{bit-lt}
 use Rattle.search.proofs.Sight.{take-left, take-right}
@@ -15,10 +16,15 @@ right-at-requires : tie.Need-right-at-requires
 right-at-requires c κs = search needs
 
 returns : tie.Need-returns
-returns c = take-left _ _ _ _ (sym (c .before .before .bit-of .ensures) ∙ c .before .if1 .taken) (c .left-at .ensures)
+returns c =
+    let read = c .before .before .bit-of .ensures in
+    take-left _ _ _ _ (sym read ∙ c .before .if1 .taken) (c .left-at .ensures)
 
 returns-2 : tie.Need-returns-2
-returns-2 c = take-right _ _ _ _ (bit-lt 32 (c .before .before .before .before .args .index) (c .before .before .before .before .args .destination)) (λ z. c .before .if1 .left (c .before .before .bit-of .ensures ∙ z)) (c .right-at .ensures)
+returns-2 c =
+    let args = c .before .before .before .before .args in
+    let read = c .before .before .bit-of .ensures in
+    take-right _ _ _ _ (bit-lt 32 (args .index) (args .destination)) (λ z. c .before .if1 .left (read ∙ z)) (c .right-at .ensures)
 
 pub side-at-spec : {M : Type 1} → statement M
 side-at-spec =
