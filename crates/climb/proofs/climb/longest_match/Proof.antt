@@ -1,3 +1,4 @@
+-- `down` goes to a leaf, and `climb` up from it: `looks-leaf`. Where the way ends at none, `looks-empty` and `looks-damaged`.
 use Rattle.pool.specs.Ipv4.{ipv4}
 use Rattle.climb.proofs.Climbing.{looks-leaf, looks-empty, looks-damaged}
 use borrow.Author.Needs.{needs}
@@ -20,7 +21,9 @@ enum-told-2 : tie.Need-enum-told-2
 enum-told-2 c = search needs
 
 returns : tie.Need-returns
-returns c = looks-leaf ipv4 _ _ _ _ _ _ (c .before .before .before .before .down .ensures) _ _ _ (c .before .before .end .given .1) (c .climb .ensures)
+returns c =
+    let way = c .before .before .before .before .down .ensures in
+    looks-leaf ipv4 _ _ _ _ _ _ way _ _ _ (c .before .before .end .given .1) (c .climb .ensures)
 
 returns-2 : tie.Need-returns-2
 returns-2 c = looks-empty ipv4 _ _ _ _ _ _ (c .before .before .down .ensures) (c .enum-told .given .1)
