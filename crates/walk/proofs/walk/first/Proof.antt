@@ -1,3 +1,4 @@
+-- A root link of 0 holds no route (`firsts-empty`); else the first route is the front of what stands at it (`firsts-front`).
 use Rattle.pool.specs.Ipv4.{ipv4}
 use Rattle.walk.proofs.Fronts.{firsts-empty, firsts-front}
 use borrow.Author.Needs.{needs}

@@ -1,3 +1,4 @@
+-- `leftmost` goes to a leaf, whose first route is the front (`fronts-leaf`); where it finds none, no good tree stands at the link (`fronts-damaged`).
 use mathlib.Core.Path.{subst}
 use native.Mathlib.Omega.{arith}
 use Rattle.pool.specs.Ipv4.{ipv4}
@@ -14,16 +15,23 @@ enum-known-place : tie.Need-enum-known-place
 enum-known-place c = search needs
 
 route-at-requires : tie.Need-route-at-requires
-route-at-requires c κs = let e = subst (Leftmost ipv4 _ _ _) (c .before .place .given .1) (c .before .before .before .leftmost .ensures) in let i = e .inPool in omega (arith, i, c .before .before .before .before .before .pre)
+route-at-requires c κs =
+    let leaf = subst (Leftmost ipv4 _ _ _) (c .before .place .given .1) (c .before .before .before .leftmost .ensures) in
+    let inside = leaf .inPool in
+    omega arith
 
 enum-told : tie.Need-enum-told
 enum-told c = search needs
 
 returns : tie.Need-returns
-returns c = fronts-leaf ipv4 _ _ _ _ _ (subst (Leftmost ipv4 _ _ _) (c .before .before .place .given .1) (c .before .before .before .before .leftmost .ensures)) (c .route-at .ensures)
+returns c =
+    let leaf = subst (Leftmost ipv4 _ _ _) (c .before .before .place .given .1) (c .before .before .before .before .leftmost .ensures) in
+    fronts-leaf ipv4 _ _ _ _ _ leaf (c .route-at .ensures)
 
 returns-2 : tie.Need-returns-2
-returns-2 c = fronts-damaged ipv4 _ _ _ (subst (Leftmost ipv4 _ _ _) (c .enum-told .given .1) (c .before .before .leftmost .ensures))
+returns-2 c =
+    let damaged = subst (Leftmost ipv4 _ _ _) (c .enum-told .given .1) (c .before .before .leftmost .ensures) in
+    fronts-damaged ipv4 _ _ _ damaged
 
 pub front-spec : {M : Type 1} → statement M
 front-spec =

@@ -1,3 +1,5 @@
+-- What comes after the prefix in its own leaf is next (`goes-hit`); where the leaf has no more, what stands to the right of the way
+-- is (`goes-right`). Where the leaf is damaged, no good tree is held (`goes-broken`).
 use mathlib.Core.Path.{subst}
 use native.Mathlib.Omega.{arith}
 use Rattle.pool.specs.Ipv4.{ipv4}
@@ -8,32 +10,52 @@ use borrow.Author.Needs.{needs}
 use Rattle.walk.proofs.walk.within.Statement.{statement}
 use Rattle.walk.proofs.walk.within.Tie as tie
 
+abbrev start : tie.After-along → tie.Start
+start c = c .before .before .before
+
 along-requires : tie.Need-along-requires
-along-requires c κs = let p = c .before .before .pre .1 in (c .before .before .pre .0, subst (EndInPool _) (p .1) (p .0 .endInPool))
+along-requires c κs =
+    let way = c .before .before .pre .1 in
+    (c .before .before .pre .0, subst (EndInPool _) (way .1) (way .0 .endInPool))
 
 enum-known-place : tie.Need-enum-known-place
 enum-known-place c = search needs
 
 route-at-requires : tie.Need-route-at-requires
-route-at-requires c κs = let s = subst (SpotIn ipv4 _ _ _ _) (c .before .place .given .1) (c .before .before .before .along .ensures) in let i = s .inPool in omega (arith, i, c .before .before .before .before .before .before .pre .0)
+route-at-requires c κs =
+    let spot = subst (SpotIn ipv4 _ _ _ _) (c .before .place .given .1) (c .before .before .before .along .ensures) in
+    let inside = spot .inPool in
+    omega arith
 
 enum-told : tie.Need-enum-told
 enum-told c = search needs
 
 right-side-requires : tie.Need-right-side-requires
-right-side-requires c κs = let p = c .before .before .before .before .before .before .pre .1 .0 in (c .before .before .before .before .before .before .pre .0, (p .shallow, p .usable))
+right-side-requires c κs = search needs
 
 enum-told-2 : tie.Need-enum-told-2
 enum-told-2 c = search needs
 
 returns : tie.Need-returns
-returns c = let p = c .before .before .before .before .before .before .before .pre .1 in goes-hit ipv4 _ _ _ _ _ _ _ (p .0) (p .1) _ _ (subst (SpotIn ipv4 _ _ _ _) (c .before .before .place .given .1) (c .before .before .before .before .along .ensures)) (c .route-at .ensures)
+returns c =
+    let after-along = c .before .before .before .before in
+    let way = start after-along .pre .1 in
+    let spot = subst (SpotIn ipv4 _ _ _ _) (c .before .before .place .given .1) (after-along .along .ensures) in
+    goes-hit ipv4 _ _ _ _ _ _ _ (way .0) (way .1) _ _ spot (c .route-at .ensures)
 
 returns-2 : tie.Need-returns-2
-returns-2 c = let p = c .before .before .before .before .before .before .before .pre .1 in goes-right ipv4 _ _ _ _ _ _ _ (p .0) (p .1) _ _ (subst (SpotIn ipv4 _ _ _ _) (c .before .before .enum-told .given .1) (c .before .before .before .before .along .ensures)) (c .right-side .ensures)
+returns-2 c =
+    let after-along = c .before .before .before .before in
+    let way = start after-along .pre .1 in
+    let absent = subst (SpotIn ipv4 _ _ _ _) (c .before .before .enum-told .given .1) (after-along .along .ensures) in
+    goes-right ipv4 _ _ _ _ _ _ _ (way .0) (way .1) _ _ absent (c .right-side .ensures)
 
 returns-3 : tie.Need-returns-3
-returns-3 c = let p = c .before .before .before .before .before .pre .1 in goes-broken ipv4 _ _ _ _ _ _ _ (p .0) (p .1) (subst (SpotIn ipv4 _ _ _ _) (c .enum-told2 .given .1) (c .before .before .along .ensures))
+returns-3 c =
+    let after-along = c .before .before in
+    let way = start after-along .pre .1 in
+    let damaged = subst (SpotIn ipv4 _ _ _ _) (c .enum-told2 .given .1) (after-along .along .ensures) in
+    goes-broken ipv4 _ _ _ _ _ _ _ (way .0) (way .1) damaged
 
 pub within-spec : {M : Type 1} → statement M
 within-spec =
