@@ -1,3 +1,5 @@
+-- Each test that fails refuses the route by the field of `RouteFine` that it tests. Where none fails, the last test is the last field, so
+-- it holds just where the route is fine.
 use mathlib.Core.Path.{ap, sym, _∙_}
 use native.Mathlib.Omega.{arith}
 use borrow.Author.Needs.{needs}
@@ -30,34 +32,40 @@ well-formed-requires c κs = search needs
 
 returns-4 : tie.Need-returns-4
 returns-4 c =
-    let e = c .before .before .before .route-at .ensures in
-    refused (λ f. not-both (ap (λ (r : Route Hop). wellFormed 32 (r .prefix)) e ∙ f .obeys .0) (sym (c .before .well-formed .ensures) ∙ not-true _ (c .if4 .taken)))
+    let formed = ap (λ (r : Route Hop). wellFormed 32 (r .prefix)) (c .before .before .before .route-at .ensures) in
+    let fails = sym (c .before .well-formed .ensures) ∙ not-true _ (c .if4 .taken) in
+    refused (λ f. not-both (formed ∙ f .obeys .0) fails)
 
 may-be-held-requires : tie.Need-may-be-held-requires
 may-be-held-requires c κs = search needs
 
 returns-5 : tie.Need-returns-5
 returns-5 c =
-    let e = c .before .before .before .before .before .route-at .ensures in
-    refused (λ f. not-both (ap (λ (r : Route Hop). mayHold (r .prefix)) e ∙ f .obeys .1) (sym (c .before .may-be-held .ensures) ∙ not-true _ (c .if5 .taken)))
+    let holdable = ap (λ (r : Route Hop). mayHold (r .prefix)) (c .before .before .before .before .before .route-at .ensures) in
+    let fails = sym (c .before .may-be-held .ensures) ∙ not-true _ (c .if5 .taken) in
+    refused (λ f. not-both (holdable ∙ f .obeys .1) fails)
 
 is-good-requires : tie.Need-is-good-requires
 is-good-requires c κs = search needs
 
 returns-6 : tie.Need-returns-6
 returns-6 c =
-    let e = c .before .before .before .before .before .before .route-at .ensures in
-    let w = sym (ap (λ (r : Route Hop). wellFormed 32 (r .prefix)) e) ∙ sym (c .before .before .before .before .well-formed .ensures) ∙ not-false _ (c .before .before .before .if4 .left) in
-    let m = sym (ap (λ (r : Route Hop). mayHold (r .prefix)) e) ∙ sym (c .before .before .may-be-held .ensures) ∙ not-false _ (c .before .if5 .left) in
-    let g = c .is-good .ensures ∙ ap (λ (r : Route Hop). goodHop (r .payload)) e in
-    let kind = c .before .before .before .before .before .before .before .before .before .kind-at .ensures in (
+    let tested = c .before .before .before in
+    let route = tested .before .before .before .route-at .ensures in
+    let formed = sym (tested .before .well-formed .ensures) ∙ not-false _ (tested .if4 .left) in
+    let holdable = sym (c .before .before .may-be-held .ensures) ∙ not-false _ (c .before .if5 .left) in
+    let good = c .is-good .ensures ∙ ap (λ (r : Route Hop). goodHop (r .payload)) route in (
       λ t. record {
-        inPool = c .before .before .before .before .before .before .before .before .before .before .if1 .left;
-        used = omega (arith, kind, c .before .before .before .before .before .before .before .before .if2 .left);
-        known = omega (arith, kind, c .before .before .before .before .before .before .before .if3 .left);
-        obeys = (w, m, sym g ∙ t);
+        inPool = omega arith;
+        used = omega arith;
+        known = omega arith;
+        obeys = (
+          sym (ap (λ (r : Route Hop). wellFormed 32 (r .prefix)) route) ∙ formed,
+          sym (ap (λ (r : Route Hop). mayHold (r .prefix)) route) ∙ holdable,
+          sym good ∙ t,
+        );
       },
-      λ f. g ∙ f .obeys .2,
+      λ f. good ∙ f .obeys .2,
     )
 
 pub route-is-good-spec : {M : Type 1} → statement M

@@ -51,11 +51,13 @@ place c = c .before .place .given .0 .0 .0
 
 -- the link leads to that place
 place-of : (c : tie.After-known-told) → entry c .args .link ≡ toRoute (place c)
-place-of c = route-from (entry c .args .link) (c .before .place .given .0 .0) (sym (c .before .before .before .link-from .ensures) ∙ c .before .place .given .1)
+place-of c =
+    let told = c .before .place .given in
+    route-from (entry c .args .link) (told .0 .0) (sym (c .before .before .before .link-from .ensures) ∙ told .1)
 
 -- and to no other
 same-place : (c : tie.After-known-told) (i : ℕ) → entry c .args .link ≡ toRoute i → i ≡ place c
-same-place c i u = let v = place-of c in omega (arith, u, v)
+same-place c i u = let v = place-of c in omega arith
 
 returns-2 : tie.Need-returns-2
 returns-2 c i f =
@@ -67,7 +69,7 @@ fine : (c : tie.Else1) → RouteFine ipv4 (entry (c .before .before) .args .capa
 fine c = c .before .route-is-good .ensures .0 (not-false _ (c .if1 .left))
 
 route-at-requires : tie.Need-route-at-requires
-route-at-requires c κs = let f = fine c in omega (arith, f .inPool, entry (c .before .before) .pre)
+route-at-requires c κs = let f = fine c in omega arith
 
 -- its address and its length are those of the place
 address-read : (c : tie.After-route-at) → c .route-at .result .prefix .address ≡ addressAt ipv4 (words (placed c)) (place (placed c))
@@ -87,10 +89,10 @@ returns-4 c i f =
     let r = read (c .before) in
     let same = same-place (placed r) i (f .linked) in
     let n = length-read r ∙ ap (lengthAt ipv4 (words (placed r))) (sym same) in
-    omega (arith, n, f .shorter, c .if3 .taken)
+    omega arith
 
 next-at-requires : tie.Need-next-at-requires
-next-at-requires c κs = let r = read (c .before) in let f = fine (r .before) in omega (arith, f .inPool, entry (placed r) .pre)
+next-at-requires c κs = let f = fine (read (c .before) .before) in omega arith
 
 returns-5 : tie.Need-returns-5
 returns-5 c =

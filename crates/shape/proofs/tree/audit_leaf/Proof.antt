@@ -1,3 +1,4 @@
+-- A leaf is what its chain is: `leaf-fine` where the chain's audit is fine, `leaf-bad` where it is bad.
 use mathlib.Core.Path.{subst}
 use borrow.Author.Needs.{needs}
 use Rattle.pool.specs.Ipv4.{ipv4}
@@ -7,6 +8,10 @@ use Rattle.shape.specs.declared.chain.ChainAudit.{ChainAudit}
 use Rattle.shape.proofs.Grown.{leaf-fine, leaf-bad}
 use Rattle.shape.proofs.tree.audit_leaf.Statement.{statement}
 use Rattle.shape.proofs.tree.audit_leaf.Tie as tie
+
+-- what is said of the chain at the place, in the words at the start
+abbrev Says : tie.After-audit-chain → ChainAudit → Type 0
+Says c = let args = c .before .before .args in ChainSays ipv4 (args .capacity) (args .pool .now) (args .place .0)
 
 audit-chain-requires : tie.Need-audit-chain-requires
 audit-chain-requires c κs = search needs
@@ -19,15 +24,18 @@ enum-told c = search needs
 
 returns : tie.Need-returns
 returns c low =
-    let a = c .before .before .before .before .before .args in
-    let says : ChainSays ipv4 (a .capacity) (a .pool .now) (a .place .0) (ChainAudit.Fine (c .before .address .given .0 .0) (c .before .address .given .0 .1 .0)) =
-    subst (ChainSays ipv4 (a .capacity) (a .pool .now) (a .place .0)) (c .before .address .given .1) (c .before .before .before .audit-chain .ensures) in
-    leaf-fine ipv4 (a .capacity) (a .pool .now) (toRoute (a .place .0)) low _ _ (says .0) (says .1) (says .2)
+    let audited = c .before .before .before in
+    let args = audited .before .before .args in
+    let told = c .before .address .given in
+    let says : Says audited (ChainAudit.Fine (told .0 .0) (told .0 .1 .0)) = subst (Says audited) (told .1) (audited .audit-chain .ensures) in
+    leaf-fine ipv4 (args .capacity) (args .pool .now) (toRoute (args .place .0)) low _ _ (says .0) (says .1) (says .2)
 
 returns-2 : tie.Need-returns-2
 returns-2 c low t f =
-    let a = c .before .before .before .before .args in
-    leaf-bad ipv4 (a .capacity) (a .pool .now) (a .place .0) low t (subst (ChainSays ipv4 (a .capacity) (a .pool .now) (a .place .0)) (c .enum-told .given .1) (c .before .before .audit-chain .ensures)) f
+    let audited = c .before .before in
+    let args = audited .before .before .args in
+    let bad = subst (Says audited) (c .enum-told .given .1) (audited .audit-chain .ensures) in
+    leaf-bad ipv4 (args .capacity) (args .pool .now) (args .place .0) low t bad f
 
 pub audit-leaf-spec : {M : Type 1} → statement M
 audit-leaf-spec =

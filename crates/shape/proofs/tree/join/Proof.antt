@@ -1,3 +1,5 @@
+-- Each test that fails leaves no common start of the two sides, and needs only arithmetic. Where all hold, the start is half of what the
+-- left side's lowest address begins with, and the span is what the two sides' spans make.
 use Prim.Native.Nat.{_/_}
 use mathlib.Core.Path.{refl}
 use native.Mathlib.Omega.{arith}
@@ -42,21 +44,22 @@ add-t10 : tie.Need-add-t10
 add-t10 c = search needs
 
 returns-5 : tie.Need-returns-5
-returns-5 c = (
-  (
-    c .before .before .before .before .before .before .before .before .before .before .before .first-bits .result / 2,
-    record {
-      leftLeast = omega arith;
-      leftGreatest = omega arith;
-      rightLeast = omega arith;
-      rightGreatest = omega arith;
-    },
-  ),
-  refl,
-  refl,
-  refl,
-  refl,
-)
+returns-5 c =
+    let zero = c .before .before .before .before .before .before .before .before .before .before .before .first-bits .result in (
+      (
+        zero / 2,
+        record {
+          leftLeast = omega arith;
+          leftGreatest = omega arith;
+          rightLeast = omega arith;
+          rightGreatest = omega arith;
+        },
+      ),
+      refl,
+      refl,
+      refl,
+      refl,
+    )
 
 pub join-spec : {M : Type 1} → statement M
 join-spec =
