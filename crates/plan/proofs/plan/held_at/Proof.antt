@@ -1,3 +1,5 @@
+-- `search::down` goes down by the address. Its end is the empty table (`held-empty`), damage (`held-damaged`), or a leaf, where `hung_at`
+-- looks along the leaf's routes: `held-leaf`.
 use mathlib.Core.Path.{subst}
 use borrow.Author.Needs.{needs}
 use Rattle.pool.specs.Ipv4.{ipv4}
@@ -6,6 +8,10 @@ use Rattle.search.specs.Down.{EndInPool}
 use Rattle.plan.proofs.HeldPlanned.{held-empty, held-damaged, held-leaf}
 use Rattle.plan.proofs.plan.held_at.Statement.{statement}
 use Rattle.plan.proofs.plan.held_at.Tie as tie
+
+-- where the way down was gone, from where its end was told to be a leaf
+abbrev went : tie.After-end → tie.After-down
+went c = c .before .before .before
 
 down-requires : tie.Need-down-requires
 down-requires c κs = search needs
@@ -17,7 +23,11 @@ cell-of-requires : tie.Need-cell-of-requires
 cell-of-requires c κs = search needs
 
 hung-at-requires : tie.Need-hung-at-requires
-hung-at-requires c κs = (c .before .before .before .before .before .before .before .pre, (subst (EndInPool _) (c .before .before .end .given .1) (c .before .before .before .before .before .down .ensures .endInPool), c .cell-of .ensures .inPool))
+hung-at-requires c κs =
+    let told = c .before .before in
+    let down = went told in
+    let first-inside = subst (EndInPool _) (told .end .given .1) (down .down .ensures .endInPool) in
+    (down .before .before .pre, (first-inside, c .cell-of .ensures .inPool))
 
 enum-told : tie.Need-enum-told
 enum-told c = search needs
@@ -26,7 +36,9 @@ enum-told-2 : tie.Need-enum-told-2
 enum-told-2 c = search needs
 
 returns : tie.Need-returns
-returns c = held-leaf ipv4 laid4 _ _ _ _ _ _ (c .before .before .before .before .before .before .down .ensures) _ (c .before .before .before .end .given .1) _ (c .before .cell-of .ensures) _ (c .hung-at .ensures)
+returns c =
+    let told = c .before .before .before in
+    held-leaf ipv4 laid4 _ _ _ _ _ _ (went told .down .ensures) _ (told .end .given .1) _ (c .before .cell-of .ensures) _ (c .hung-at .ensures)
 
 returns-2 : tie.Need-returns-2
 returns-2 c = held-empty ipv4 laid4 _ _ _ _ _ _ (c .before .before .before .down .ensures) (c .enum-told .given .1)

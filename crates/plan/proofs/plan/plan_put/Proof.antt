@@ -1,3 +1,5 @@
+-- `search::down` ends nowhere (`put-empty`, `put-damaged`) or at a leaf, whose address is read at its first route. Where it is the route's own,
+-- the route is hung along the leaf's: `put-hang`. Else the two part at a bit, and a new leaf is joined above the places past it: `put-join`.
 use Prim.Native.Nat.{ℕ, _+_, _<_}
 use mathlib.Core.Path.{_≡_, sym, ap, subst, _∙_}
 use native.Mathlib.Omega.{arith}
@@ -13,13 +15,30 @@ use Rattle.plan.proofs.PutPlanned.{put-empty, put-damaged, put-hang, pu
 use Rattle.plan.proofs.plan.plan_put.Statement.{statement}
 use Rattle.plan.proofs.plan.plan_put.Tie as tie
 
+-- where the way down was gone, and the start, from where its end was told to be a leaf
+abbrev went : tie.After-end → tie.After-down
+went c = c .before .before .before
+
+abbrev start : tie.After-end → tie.Start
+start c = went c .before .before
+
+-- that leaf, from where its prefix was read; and that, from where its address is tested
+abbrev at-leaf : tie.After-prefix-at → tie.After-end
+at-leaf c = c .before .before .before
+
+abbrev read : tie.After-struct-known2 → tie.After-prefix-at
+read c = c .before .before
+
 -- the first route of the leaf is in the pool
-inside : (c : tie.After-end) → c .end .given .0 .0 .0 < c .before .before .before .before .before .args .capacity
-inside c = subst (EndInPool _) (c .end .given .1) (c .before .before .before .down .ensures .endInPool)
+inside : (c : tie.After-end) → c .end .given .0 .0 .0 < start c .args .capacity
+inside c = subst (EndInPool _) (c .end .given .1) (went c .down .ensures .endInPool)
 
 -- the address that was read there
-held : (c : tie.After-prefix-at) → prefixAt ipv4 (c .before .before .before .before .before .before .before .before .args .pool .now) (ipv4 .seat (c .before .before .before .end .given .0 .0 .0) + ipv4 .prefixOffset) .address ≡ c .prefix-at .result .address
-held c = sym (ap (λ (p : Prefix). p .address) (c .prefix-at .ensures) ∙ ap (λ (n : ℕ). prefixAt ipv4 (c .before .before .before .before .before .before .before .before .args .pool .now) (n + ipv4 .prefixOffset) .address) (c .before .seat .ensures))
+abbrev address-at : tie.After-prefix-at → ℕ → ℕ
+address-at c seat = prefixAt ipv4 (start (at-leaf c) .args .pool .now) (seat + ipv4 .prefixOffset) .address
+
+held : (c : tie.After-prefix-at) → address-at c (ipv4 .seat (at-leaf c .end .given .0 .0 .0)) ≡ c .prefix-at .result .address
+held c = sym (ap (λ (p : Prefix). p .address) (c .prefix-at .ensures) ∙ ap (address-at c) (c .before .seat .ensures))
 
 down-requires : tie.Need-down-requires
 down-requires c κs = search needs
@@ -28,25 +47,31 @@ enum-known-end : tie.Need-enum-known-end
 enum-known-end c = search needs
 
 seat-requires : tie.Need-seat-requires
-seat-requires c κs = omega (arith, inside (c .before), c .before .before .before .before .before .before .pre .0)
+seat-requires c κs = omega (arith, inside (c .before))
 
 add-prefix-at : tie.Need-add-prefix-at
 add-prefix-at c = search needs
 
 prefix-at-requires : tie.Need-prefix-at-requires
-prefix-at-requires c κs = omega (arith, inside (c .before .before), c .seat .ensures, c .before .before .before .before .before .before .before .pre .1)
+prefix-at-requires c κs = omega (arith, inside (c .before .before))
 
 cell-of-requires : tie.Need-cell-of-requires
 cell-of-requires c κs = search needs
 
 chain-cell-requires : tie.Need-chain-cell-requires
-chain-cell-requires c κs = (c .before .before .before .before .before .before .before .before .before .before .before .before .pre, inside (c .before .before .before .before .before .before .before))
+chain-cell-requires c κs =
+    let leaf = at-leaf (read (c .before .before)) in
+    (start leaf .pre, inside leaf)
 
 returns : tie.Need-returns
-returns c = (
-  put-hang ipv4 laid4 _ _ _ _ _ _ (c .before .before .before .before .before .before .before .before .before .before .before .down .ensures) _ (c .before .before .before .before .before .before .before .before .end .given .1) _ _ (held (c .before .before .before .before .before) ∙ c .before .before .if1 .taken) (c .before .cell-of .ensures) (c .chain-cell .ensures),
-  cell-inside ipv4 laid4 _ _ _ _ _ _ (c .before .before .before .before .before .before .before .before .before .before .before .before .before .pre) (c .before .cell-of .ensures .inPool) (c .chain-cell .ensures),
-)
+returns c =
+    let same = c .before .before in
+    let leaf = at-leaf (read (same .before)) in
+    let address = held (read (same .before)) ∙ same .if1 .taken in
+    let from = c .before .cell-of .ensures in (
+      put-hang ipv4 laid4 _ _ _ _ _ _ (went leaf .down .ensures) _ (leaf .end .given .1) _ _ address from (c .chain-cell .ensures),
+      cell-inside ipv4 laid4 _ _ _ _ _ _ (start leaf .pre) (from .inPool) (c .chain-cell .ensures),
+    )
 
 parting-requires : tie.Need-parting-requires
 parting-requires c κs = search needs
@@ -55,7 +80,10 @@ level-of-requires : tie.Need-level-of-requires
 level-of-requires c κs = search needs
 
 cell-of-requires-2 : tie.Need-cell-of-requires-2
-cell-of-requires-2 c κs = (c .before .before .before .before .before .before .before .before .before .before .before .before .before .pre, fewer ipv4 laid4 _ _ _ _ _ (c .level-of .ensures .within) (record { shallow = c .before .before .before .before .before .before .before .before .before .before .before .down .ensures .shallow; usable = c .before .before .before .before .before .before .before .before .before .before .before .down .ensures .usable }))
+cell-of-requires-2 c κs =
+    let leaf = at-leaf (read (c .before .before .before)) in
+    let way = went leaf .down .ensures in
+    (start leaf .pre, fewer ipv4 laid4 _ _ _ _ _ (c .level-of .ensures .within) (record { shallow = way .shallow; usable = way .usable }))
 
 enum-told : tie.Need-enum-told
 enum-told c = search needs
@@ -64,10 +92,14 @@ enum-told-2 : tie.Need-enum-told-2
 enum-told-2 c = search needs
 
 returns-2 : tie.Need-returns-2
-returns-2 c = (
-  put-join ipv4 laid4 _ _ _ _ _ _ (c .before .before .before .before .before .before .before .before .before .before .before .before .down .ensures) _ (c .before .before .before .before .before .before .before .before .before .end .given .1) _ _ _ _ (held (c .before .before .before .before .before .before)) (c .before .before .before .if1 .left) (c .before .before .parting .ensures) (c .before .level-of .ensures) (c .cell-of2 .ensures),
-  (c .cell-of2 .ensures .inPool, c .before .before .parting .ensures .within),
-)
+returns-2 c =
+    let other = c .before .before .before in
+    let leaf = at-leaf (read (other .before)) in
+    let parts = c .before .before .parting .ensures in (
+      put-join ipv4 laid4 _ _ _ _ _ _ (went leaf .down .ensures) _ (leaf .end .given .1) _ _ _ _
+          (held (read (other .before))) (other .if1 .left) parts (c .before .level-of .ensures) (c .cell-of2 .ensures),
+      (c .cell-of2 .ensures .inPool, parts .within),
+    )
 
 returns-3 : tie.Need-returns-3
 returns-3 c = (put-empty ipv4 laid4 _ _ _ _ _ _ (c .before .before .before .down .ensures) (c .enum-told .given .1), tt)
