@@ -1,3 +1,4 @@
+-- What `mask_length` counts, taken for the answer that goes with it (`ofMask`), is what the definition says: `of-mask`.
 use mathlib.Core.Path.{sym, ap, _∙_}
 use Rattle.route.proofs.Masks.{ofMask, of-mask}
 use borrow.Author.Needs.{needs}
@@ -14,10 +15,14 @@ enum-told : tie.Need-enum-told
 enum-told c = search needs
 
 returns : tie.Need-returns
-returns c = sym (ap ofMask (c .before .ones .given .1)) ∙ ap ofMask (c .before .before .before .mask-length .ensures) ∙ of-mask _
+returns c =
+    let counted = c .before .before .before .mask-length .ensures in
+    sym (ap ofMask (c .before .ones .given .1)) ∙ ap ofMask counted ∙ of-mask _
 
 returns-2 : tie.Need-returns-2
-returns-2 c = sym (ap ofMask (c .enum-told .given .1)) ∙ ap ofMask (c .before .before .mask-length .ensures) ∙ of-mask _
+returns-2 c =
+    let counted = c .before .before .mask-length .ensures in
+    sym (ap ofMask (c .enum-told .given .1)) ∙ ap ofMask counted ∙ of-mask _
 
 pub measure-spec : {M : Type 1} → statement M
 measure-spec =

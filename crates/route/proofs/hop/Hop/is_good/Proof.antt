@@ -1,4 +1,5 @@
--- Each arm is handed that the hop is its variant's, at which `goodHop` computes.
+-- Each arm is handed that the hop is its variant's, at which `goodHop` computes; a gateway is good or not by the test:
+-- `via-good`, `via-bad`.
 use mathlib.Core.Path.{sym, ap, _∙_}
 use Rattle.model.specs.Ipv4.{goodHop}
 use Rattle.route.specs.Means.{hopOf}
@@ -22,10 +23,14 @@ unfolding goodHop
 returns c = sym (ap (λ (h : Hop). goodHop (hopOf h)) (c .before .before .self .given .1))
 
 returns-2 : tie.Need-returns-2
-returns-2 c = via-good _ _ (c .if1 .taken) ∙ sym (ap (λ (h : Hop). goodHop (hopOf h)) (c .before .before .before .self2 .given .1))
+returns-2 c =
+    let told = c .before .before .before .self2 .given .1 in
+    via-good _ _ (c .if1 .taken) ∙ sym (ap (λ (h : Hop). goodHop (hopOf h)) told)
 
 returns-3 : tie.Need-returns-3
-returns-3 c = via-bad _ _ (c .if1 .left) ∙ sym (ap (λ (h : Hop). goodHop (hopOf h)) (c .before .before .before .self2 .given .1))
+returns-3 c =
+    let told = c .before .before .before .self2 .given .1 in
+    via-bad _ _ (c .if1 .left) ∙ sym (ap (λ (h : Hop). goodHop (hopOf h)) told)
 
 returns-4 : tie.Need-returns-4
 unfolding goodHop

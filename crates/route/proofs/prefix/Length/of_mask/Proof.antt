@@ -18,10 +18,14 @@ add-t5 : tie.Need-add-t5
 add-t5 c = search needs
 
 returns : tie.Need-returns
-returns c = sym (ap ofMeasure (c .before .length .given .1)) ∙ ap ofMeasure (c .before .before .before .measure .ensures) ∙ of-measure _
+returns c =
+    let measured = c .before .before .before .measure .ensures in
+    sym (ap ofMeasure (c .before .length .given .1)) ∙ ap ofMeasure measured ∙ of-measure _
 
 returns-2 : tie.Need-returns-2
-returns-2 c = sym (ap ofMeasure (c .enum-told .given .1)) ∙ ap ofMeasure (c .before .before .measure .ensures) ∙ of-measure _
+returns-2 c =
+    let measured = c .before .before .measure .ensures in
+    sym (ap ofMeasure (c .enum-told .given .1)) ∙ ap ofMeasure measured ∙ of-measure _
 
 pub of-mask-spec : {M : Type 1} → statement M
 of-mask-spec =

@@ -1,3 +1,4 @@
+-- A length past the width is `matches-past`; any other compares the first bits: `matches-within`.
 use Rattle.route.proofs.Laws.{matches-past, matches-within}
 use borrow.Author.Needs.{needs}
 use Rattle.route.proofs.prefix.Prefix.matches.Statement.{statement}

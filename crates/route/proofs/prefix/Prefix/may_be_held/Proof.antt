@@ -1,3 +1,4 @@
+-- `mayHold` says yes to every prefix.
 use mathlib.Core.Path.{refl}
 use Rattle.model.specs.Ipv4.{mayHold}
 use Rattle.route.proofs.prefix.Prefix.may_be_held.Statement.{statement}

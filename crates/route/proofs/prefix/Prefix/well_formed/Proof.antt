@@ -1,3 +1,4 @@
+-- A length past the width is `long-not-formed`; any other asks that the address be clear behind it: `formed-is-clear`.
 use Rattle.route.proofs.Laws.{long-not-formed, formed-is-clear}
 use borrow.Author.Needs.{needs}
 use Rattle.route.proofs.prefix.Prefix.well_formed.Statement.{statement}
@@ -10,7 +11,7 @@ is-clear-requires : tie.Need-is-clear-requires
 is-clear-requires c κs = search needs
 
 returns-2 : tie.Need-returns-2
-returns-2 c = formed-is-clear 32 _ _ (c .before .if1 .left) (search needs) (c .is-clear .ensures)
+returns-2 c = formed-is-clear 32 _ _ (search needs) (search needs) (c .is-clear .ensures)
 
 pub well-formed-spec : {M : Type 1} → statement M
 well-formed-spec = tie.close (tie.spec returns is-clear-requires returns-2)
