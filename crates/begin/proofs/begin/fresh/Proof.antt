@@ -36,7 +36,9 @@ slice-relend-prefix-clear : tie.Need-slice-relend-prefix-clear
 slice-relend-prefix-clear c = search needs
 
 slice-aggregate-clear : tie.Need-slice-aggregate-clear
-slice-aggregate-clear c = sym (length-take-le _ _ (omega (arith, c .before .if3 .left)))
+slice-aggregate-clear c =
+    let words = c .before .before .before .before .before .before .before .args .pool .now in
+    sym (length-take-le _ words (omega (arith, c .before .if3 .left)))
 
 clear-requires : tie.Need-clear-requires
 clear-requires c κs = search needs

@@ -1,4 +1,4 @@
--- The number that is written is that of `table::room_left`, which keeps its promise; nothing is claimed of the lines.
+-- The number that is returned is that of `table::room_left`, which keeps its promise; nothing is claimed of the lines.
 use mathlib.Core.Path.{_∙_}
 use borrow.Author.Needs.{needs}
 use Rattle.reply.proofs.routes.list.Statement.{statement}
