@@ -18,7 +18,7 @@ use route::Prefix;
 use route::Route;
 
 // A prefix and the place behind it in the line, or what is wrong.
-pub enum TakenPrefix {
+pub(crate) enum TakenPrefix {
     Value(Prefix, usize),
     Wrong(Fault),
 }
@@ -30,7 +30,7 @@ enum TakenHop {
 }
 
 // A route and the place behind it, or what is wrong.
-pub enum TakenRoute {
+pub(crate) enum TakenRoute {
     Value(Route, usize),
     Wrong(Fault),
 }
@@ -65,7 +65,7 @@ fn with_mask(line: &[u8], text: &[u8], next: usize) -> TakenPrefix {
 }
 
 // A prefix is a word with a slash, or an address with a mask behind it. It has no promise, as said above.
-pub fn take_prefix(line: &[u8], from: usize) -> TakenPrefix {
+pub(crate) fn take_prefix(line: &[u8], from: usize) -> TakenPrefix {
     let text = word_at(line, from);
     let next = after(line, from);
     if text.len() == 0 {
@@ -115,7 +115,7 @@ fn take_hop(line: &[u8], from: usize) -> TakenHop {
 }
 
 // A route is a prefix and a hop. It has no promise, as said above.
-pub fn take_route(line: &[u8], from: usize) -> TakenRoute {
+pub(crate) fn take_route(line: &[u8], from: usize) -> TakenRoute {
     match take_prefix(line, from) {
         TakenPrefix::Value(prefix, next) => match take_hop(line, next) {
             TakenHop::Value(hop, end) => TakenRoute::Value(Route { prefix, hop }, end),

@@ -134,14 +134,16 @@ module _ {P : Type 0} (L : Layout P) (laid : Laid L) where
       routes = route-off;
       inners = λ q n d. subst (λ (x : ℕ). InnerBut L (s .capacity) ws (writes (joinWrites L ws (s .capacity) i j r k cell) ws) x q) (sym (h .cellIs)) (inner-off q n d);
       root =
-          λ f. word-off 2 (joinWrites L ws (s .capacity) i j r k cell) ws (off 2 (inl (omega (arith, laid .seatPast i))) (inl (omega (arith, laid .jointFirst (s .capacity) j))) (λ g. f (g ∙ sym (h .cellIs))) (omega arith));
+          λ f. word-off 2 (joinWrites L ws (s .capacity) i j r k cell) ws
+          (off 2 (inl (omega (arith, laid .seatPast i))) (inl (omega (arith, laid .jointFirst (s .capacity) j))) (λ g. f (g ∙ sym (h .cellIs))) (omega arith));
     }
 
     -- the cell is not in the new inner place
     cell-off : OffJoint L laid (s .capacity) cell j
     cell-off = go (cell-owner L laid (s .capacity) (h .way))
       where
-        go : (cellOf L (s .capacity) (h .way) ≡ 2) ⊎ ((o : ℕ) × Among o (wayInners (h .way)) × ((cellOf L (s .capacity) (h .way) ≡ L .joint (s .capacity) o + 1) ⊎ (cellOf L (s .capacity) (h .way) ≡ L .joint (s .capacity) o + 2)))
+        go : (cellOf L (s .capacity) (h .way) ≡ 2)
+            ⊎ ((o : ℕ) × Among o (wayInners (h .way)) × ((cellOf L (s .capacity) (h .way) ≡ L .joint (s .capacity) o + 1) ⊎ (cellOf L (s .capacity) (h .way) ≡ L .joint (s .capacity) o + 2)))
             → OffJoint L laid (s .capacity) cell j
         go (inl f) = inl (omega (arith, f, h .cellIs, laid .jointFirst (s .capacity) j))
         go (inr v) =

@@ -139,7 +139,8 @@ module _ {P : Type 0} (L : Layout P) (laid : Laid L) where
           (omega (arith, e .longEnough, seat-in laid (s .capacity) (x .payload .place) small, payload-fits laid))
           (inr (inl (refl, refl, (λ f. omega (arith, laid .seatPast (x .payload .place)), tt))))
 
-      taken-holds : Holds L (s .capacity) (writes (linkWrites L ws (x .payload .place) cell) ws) (word (writes (linkWrites L ws (x .payload .place) cell) ws) 2) (plug (h .way) (leaf (p .address) (h .longer ++ h .shorter)))
+      taken-holds : Holds L (s .capacity) (writes (linkWrites L ws (x .payload .place) cell) ws)
+          (word (writes (linkWrites L ws (x .payload .place) cell) ws) 2) (plug (h .way) (leaf (p .address) (h .longer ++ h .shorter)))
       taken-holds =
           let zs = writes (linkWrites L ws (x .payload .place) cell) ws in
           let left = rehung (linkWrites L ws (x .payload .place) cell) off in
@@ -219,7 +220,8 @@ module _ {P : Type 0} (L : Layout P) (laid : Laid L) where
           (record { length = p .length; payload = record { place = i; held = o } } ∷ h .shorter) (some-there (h .longer) _ (h .shorter)) (
             ap (word zs) (h .cellIs) ∙ sym same ∙ hung .0,
             hop-in-place,
-            subst (λ (y : ℕ). Chain L (s .capacity) zs (p .address) y (h .shorter)) (word-off (L .seat i + L .nextOffset) (swapWrites L i o) ws (laid .payloadPut (L .seat i) o (L .seat i + L .nextOffset) (inr (omega (arith, laid .inSeat))))) rest,
+            subst (λ (y : ℕ). Chain L (s .capacity) zs (p .address) y (h .shorter))
+                (word-off (L .seat i + L .nextOffset) (swapWrites L i o) ws (laid .payloadPut (L .seat i) o (L .seat i + L .nextOffset) (inr (omega (arith, laid .inSeat))))) rest,
           )
 
       bare-swapped : bare (plug (h .way) (leaf (p .address) (h .longer ++ (record { length = p .length; payload = record { place = x .payload .place; held = o } } ∷ h .shorter))))

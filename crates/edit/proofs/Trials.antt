@@ -86,7 +86,8 @@ module _ {P : Type 0} (L : Layout P) (laid : Laid L) where
       let now = word-on 4 n ((4, n) ∷ []) ws (omega (arith, e .longEnough, head-in laid (s .capacity))) (inl (refl, refl, tt)) in
       encodes-trial ws zs s (opened cs) e (length-writes ((4, n) ∷ []) ws) (λ y l a b. word-off y ((4, n) ∷ []) ws (b, tt)) (
         sym (word-off 3 ((4, n) ∷ []) ws (omega arith)) ∙ h .0,
-        subst (λ (k : ℕ). Recorded L c zs k cs) (sym now) (recorded-frame L c ws zs n cs (λ k l. slot-agree L laid c ws zs k (λ y a b. word-off y ((4, n) ∷ []) ws (λ f. omega (arith, laid .slotFirst c k), tt))) (r .1)),
+        subst (λ (k : ℕ). Recorded L c zs k cs) (sym now)
+            (recorded-frame L c ws zs n cs (λ k l. slot-agree L laid c ws zs k (λ y a b. word-off y ((4, n) ∷ []) ws (λ f. omega (arith, laid .slotFirst c k), tt))) (r .1)),
       )
 
   -- ---- a change recorded
@@ -267,7 +268,8 @@ module _ {P : Type 0} (L : Layout P) (laid : Laid L) where
       λ f. out 0 (omega (arith, changed-fits laid)) o (f ∙ omega arith),
       off-append y (adr ++ len) (olds ++ (news ++ ends))
           (off-append y adr len (adr-off y (part 1 (L .addressWords) (omega (arith, changed-fits laid)) o)) (len-off y (λ f. out (1 + L .addressWords) (changed-fits laid) o (f ∙ omega arith))))
-          (off-append y olds (news ++ ends) (olds-off y (part (L .oldOffset) (laid .payloadWords) (old-fits laid) o)) (off-append y news ends (news-off y (part (L .newOffset) (laid .payloadWords) (laid .newFits) o)) (n, tt))),
+          (off-append y olds (news ++ ends) (olds-off y (part (L .oldOffset) (laid .payloadWords) (old-fits laid) o))
+          (off-append y news ends (news-off y (part (L .newOffset) (laid .payloadWords) (laid .newFits) o)) (n, tt))),
     )
       where
         out : (m : ℕ) → m < laid .slotWords → Outside (laid .slotWords) k y → y ≡ k + m → ⊥
@@ -289,6 +291,9 @@ module _ {P : Type 0} (L : Layout P) (laid : Laid L) where
         (inr (on-right 4 (word ws 4 + 1) (adr ++ len) (olds ++ (news ++ ends)) (on-right 4 (word ws 4 + 1) olds (news ++ ends) (on-right 4 (word ws 4 + 1) news ends (inl (refl, refl, tt)))))) in
         encodes-trial ws zs s (opened (x ∷ cs)) e (length-writes ys ws) (λ y l a b. word-off y ys ws (row-off y b (inl (omega (arith, laid .slotFirst c (word ws 4)))))) (
           sym (word-off 3 ys ws (row-off 3 (omega arith) (inl (omega (arith, inside .1))))) ∙ there .0,
-          subst (λ (n : ℕ). Recorded L c zs n (x ∷ cs)) (sym (now ∙ add-one (word ws 4)))
-              (records, recorded-frame L c ws zs (word ws 4) cs (λ j l. slot-agree L laid c ws zs j (λ y a b. word-off y ys ws (row-off y (λ f. omega (arith, laid .slotFirst c j)) (inl (omega (arith, laid .slotsApart c j (word ws 4) l)))))) (there .1)),
+          subst (λ (n : ℕ). Recorded L c zs n (x ∷ cs)) (sym (now ∙ add-one (word ws 4))) (
+            records,
+            recorded-frame L c ws zs (word ws 4) cs
+                (λ j l. slot-agree L laid c ws zs j (λ y a b. word-off y ys ws (row-off y (λ f. omega (arith, laid .slotFirst c j)) (inl (omega (arith, laid .slotsApart c j (word ws 4) l)))))) (there .1),
+          ),
         )
