@@ -27,7 +27,7 @@ extern "C" {
 
 /* The largest capacity, the most changes that may stand in a trial, and the last
  * port; the first is 0. */
-#define RISHAVAND_LARGEST_CAPACITY 96
+#define RISHAVAND_LARGEST_CAPACITY 512
 #define RISHAVAND_MOST_CHANGES 64
 #define RISHAVAND_LAST_PORT 15
 

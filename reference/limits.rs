@@ -2,7 +2,7 @@
 //! benchmark: whatever follows from one of them is computed.
 
 /// The largest capacity.
-pub const MOST_ROUTES: u32 = 96;
+pub const MOST_ROUTES: u32 = 512;
 /// How many changes of a trial may stand.
 pub const MOST_CHANGES: usize = 64;
 /// Ports run from 0 to this one.

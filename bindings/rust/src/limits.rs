@@ -3,7 +3,7 @@
 use crate::raw;
 
 /// The largest capacity.
-pub const LARGEST_CAPACITY: u32 = 96;
+pub const LARGEST_CAPACITY: u32 = 512;
 
 /// The most changes that may stand in a trial.
 pub const MOST_CHANGES: u32 = 64;

@@ -21,11 +21,12 @@ goodHop reject = true
 unfoldable pub mayHold : Prefix → Bool
 mayHold p = true
 
--- The numbers of document 01: 32 bits, a capacity of 96 at most, 64 standing changes. How many words a capacity needs is the pool's to say.
+-- The numbers of document 01, the limit as request 1 of document 02 has it: 32 bits, a capacity of 512 at most, 64 standing changes.
+-- How many words a capacity needs is the pool's to say.
 abbrev pub ipv4 : (ℕ → ℕ) → Rules Hop
 ipv4 words = record {
   width = 32;
-  limit = 96;
+  limit = 512;
   words = words;
   standing = 64;
   mayHold = mayHold;

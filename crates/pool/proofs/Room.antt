@@ -1,13 +1,16 @@
 -- How much room a pool takes, and that none of it is lost.
 use Prim.Native.Nat.{ℕ, zero, suc, _*_, _≤_, _<_}
-use mathlib.Core.Path.{_≡_, sym, ap, subst, _∙_}
+use mathlib.Core.Path.{_≡_, refl, sym, ap, subst, _∙_}
 use mathlib.Core.List.{List}
 use mathlib.Core.Logic.{_⊎_, inl, inr, ⊎-elim}
 use mathlib.Core.Option.{none, some}
 use native.Mathlib.Nat.{le-antisymm}
 use native.Mathlib.Omega.{arith}
+use borrow.Author.Tests.{le-ltb}
 use lib.ListN.{length}
-use Rattle.model.specs.State.{State}
+use Rattle.model.specs.State.{State, Meaning}
+use Rattle.model.specs.Call.{fresh, number}
+use Rattle.model.specs.Ipv4.{Hop}
 use Rattle.bits.proofs.Cases.{lt-or-le, eq-or-ne}
 use Rattle.patricia.specs.Tree.{Root}
 use Rattle.patricia.specs.Good.{RootGood}
@@ -21,9 +24,16 @@ use Rattle.pool.proofs.Places.{route-count, route-used}
 use Rattle.pool.proofs.Distinct.{Distinct, routes-distinct}
 use Rattle.pool.proofs.Few.{all-among, every-among}
 
--- "At most 32 KiB at any capacity": a word is 4 bytes.
-pub at-most-32-KiB : (c : ℕ) → c ≤ ipv4 .rules .limit → 4 * size ipv4 c ≤ 32 * 1024
-at-most-32-KiB c h = omega (arith, h)
+-- "The pool may take up to 64 KiB", at any capacity: a word is 4 bytes.
+pub at-most-64-KiB : (c : ℕ) → c ≤ ipv4 .rules .limit → 4 * size ipv4 c ≤ 64 * 1024
+at-most-64-KiB c h = omega (arith, h)
+
+-- "Capacity now runs from 1 to 512 and 513 gives 1."
+pub largest-taken : (n : ℕ) (m : Meaning Hop) → size ipv4 512 ≤ n → number (ipv4 .rules) (fresh 512 n) m ≡ 0
+largest-taken n m h = rw (le-ltb n (size ipv4 512) h)
+
+pub above-refused : (n : ℕ) (m : Meaning Hop) → number (ipv4 .rules) (fresh 513 n) m ≡ 1
+above-refused n m = refl
 
 module _ {P : Type 0} (L : Layout P) (ws : List ℕ) (s : State P) (m : Means L ws s) where
   used-distinct : (t : Root ℕ (Seat P)) → HoldsRoot L (s .capacity) ws (rootIn ws) t → RootGood (L .rules .width) (bareRoot t) → Distinct (routesUsed t)

@@ -5,7 +5,7 @@ ghost use Rattle.pool.specs.Ipv4.{ipv4};
 use super::link::Place;
 
 // The largest capacity.
-pub const LIMIT: u32 = 96;
+pub const LIMIT: u32 = 512;
 
 // The most changes that may stand in a trial.
 pub const CHANGES: usize = 64;
