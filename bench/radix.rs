@@ -2,7 +2,7 @@
 //! noted at the highest node above its leaf whose bit is not before the mask's end. A search goes down by bits, tries the
 //! leaf's routes, and climbs; at each node on the way up it searches once more from there for each mask noted.
 use crate::engines::Engine;
-use crate::tables::{mask, Route};
+use crate::tables::{mask, side, Route};
 use std::ptr::null_mut;
 
 struct Node {
@@ -22,10 +22,6 @@ pub struct Radix {
 }
 
 const LEAF: u32 = 32;
-
-fn side(key: u32, bit: u32) -> usize {
-    (key >> (31 - bit) & 1) as usize
-}
 
 fn new(bit: u32, key: u32, routes: Vec<Route>) -> *mut Node {
     Box::into_raw(Box::new(Node { bit, parent: null_mut(), children: [null_mut(); 2], masks: vec![], key, routes }))
