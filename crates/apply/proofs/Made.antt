@@ -1,7 +1,7 @@
 -- From an accepted call to the state that the words mean after it.
 use Prim.Native.Nat.{ℕ, _≤_, _<_}
 use mathlib.Core.Path.{_≡_, refl, sym, ap, subst, _∙_}
-use mathlib.Core.Bool.{false, cond}
+use mathlib.Core.Bool.{true, false, cond}
 use mathlib.Core.List.{List, [], _∷_}
 use mathlib.Core.Option.{Option, some}
 use native.Mathlib.Omega.{arith}
@@ -10,11 +10,12 @@ use lib.Dec.{eqb}
 use lib.ListN.{length}
 use Rattle.model.specs.Prefix.{Prefix, wellFormed}
 use Rattle.model.specs.Routes.{Route, find, insert, remove, replace}
-use Rattle.model.specs.State.{State, Change, added, deleted, changed, Trial, closed, opened, changes, recordIn}
-use Rattle.model.specs.Call.{Call, add, delete, change, openTrial, keep, due, trialFull, done, next, withTrial, changeTo, deleteFrom, changeAt}
+use Rattle.model.specs.State.{Hand, State, Change, added, deleted, changed, Trial, closed, opened, changes, recordIn}
+use Rattle.model.specs.Call.{Call, add, delete, change, openTrial, keep, due, accepted, trialFull, done, next, withTrial, changeTo, deleteFrom, changeAt}
 use Rattle.model.proofs.Numbers.{Quiet, accepted-quiet}
 use Rattle.model.proofs.Tests.{both}
-use Rattle.model.proofs.Lawful.{LawfulMeaning, next-lawful, there, absent}
+use Rattle.model.proofs.Lawful.{LawfulMeaning, next-lawful}
+use Rattle.model.proofs.Taken.{AddTaken, add-taken, DeleteTaken, delete-taken, ChangeTaken, change-taken}
 use Rattle.model.proofs.Routes.{find-held}
 use Rattle.pool.specs.Layout.{Layout, trialIn, standingIn, heldPayload}
 use Rattle.pool.specs.declared.link.Place.{Place}
@@ -48,8 +49,11 @@ module _ {P : Type 0} (L : Layout P) where
       (t, is, encodes-means L zs t k (subst (LawfulMeaning (L .rules)) is (next-lawful (L .rules) call (some s) (a .means .lawful))))
 
   -- none of its lines holds
+  pub accepts : (c : ℕ) (call : Call P) (ws : List ℕ) (s : State P) → Accepts L c call ws s → accepted (L .rules) call (some s) ≡ true
+  accepts c call ws s a = ap (λ (n : ℕ). eqb n 0) (a .numberIs)
+
   pub lines : (c : ℕ) (call : Call P) (ws : List ℕ) (s : State P) → Accepts L c call ws s → Quiet (due (L .rules) call (some s))
-  lines c call ws s a = accepted-quiet (L .rules) call (some s) (ap (λ (n : ℕ). eqb n 0) (a .numberIs))
+  lines c call ws s a = accepted-quiet (L .rules) call (some s) (accepts c call ws s a)
 
   -- ---- the hop that a prefix has
 
@@ -58,10 +62,10 @@ module _ {P : Type 0} (L : Layout P) where
       → (places : List ℕ) × Spotted L ws places x (some r)
   found-there c ws p x f s m ci r is = (routesUsed (m .tree), subst (Spotted L ws (routesUsed (m .tree)) x) is (means-spotted L c ws p x f s m ci))
 
-  pub hop-there : (c : ℕ) (ws : List ℕ) (p : Prefix) (i : Place) → Finds L c ws p (spot.At i) → (s : State P) → Means L ws s → s .capacity ≡ c → (r : Route P)
+  pub payload-there : (c : ℕ) (ws : List ℕ) (p : Prefix) (i : Place) → Finds L c ws p (spot.At i) → (s : State P) → Means L ws s → s .capacity ≡ c → (r : Route P)
       → find p (s .routes) ≡ some r
       → heldPayload L ws (i .0) ≡ r .payload
-  hop-there c ws p i f s m ci r is = ap (λ (x : Route P). x .payload) (found-there c ws p (spot.At i) f s m ci r is .1 .1)
+  payload-there c ws p i f s m ci r is = ap (λ (x : Route P). x .payload) (found-there c ws p (spot.At i) f s m ci r is .1 .1)
 
   -- ---- a change recorded
 
@@ -105,84 +109,76 @@ module _ {P : Type 0} (L : Layout P) (laid : Laid L) where
   -- ---- add
 
   module _ (c : ℕ) (r : Route P) (ws : List ℕ) (s : State P) (a : Accepts L c (add r) ws s) where
-    add-quiet : Quiet (due (L .rules) (add r) (some s))
-    add-quiet = lines L c (add r) ws s a
+    taken-add : AddTaken (L .rules) s r
+    taken-add = add-taken (L .rules) s r (accepts L c (add r) ws s a)
 
     pub add-to-put : ToPut L c ws r s
-    add-to-put =
-        let q = add-quiet in
-        record {
-          encodes = means-encodes L ws s (a .means);
-          capacityIs = a .capacityIs;
-          few = a .means .lawful .few;
-          formed = both (wellFormed (L .rules .width) (r .prefix)) (L .rules .mayHold (r .prefix)) (not-false _ (q .1 .0)) .0;
-          absent = absent (r .prefix) (s .routes) (q .1 .1 .1 .0);
-          room = omega (arith, a .means .lawful .noMore, eqb-false (length (s .routes)) (s .capacity) (q .1 .1 .1 .1 .1 .0));
-        }
+    add-to-put = record {
+      encodes = means-encodes L ws s (a .means);
+      capacityIs = a .capacityIs;
+      few = a .means .lawful .few;
+      formed = taken-add .obeys .0;
+      absent = taken-add .absent;
+      room = omega (arith, a .means .lawful .noMore, eqb-false (length (s .routes)) (s .capacity) (taken-add .room));
+    }
 
     pub add-slot : (ys : List ℕ) → Encodes L ys (withTrial s (insert r (s .routes)) (s .trial)) → trialIn ys ≡ 1 → standingIn ys < L .rules .standing
-    add-slot ys e = slot-free L ys (withTrial s (insert r (s .routes)) (s .trial)) e (a .means .lawful .few) (add-quiet .1 .1 .1 .1 .0)
+    add-slot ys e = slot-free L ys (withTrial s (insert r (s .routes)) (s .trial)) e (a .means .lawful .few) (taken-add .few)
 
     pub add-does : (ys zs : List ℕ) → Encodes L ys (withTrial s (insert r (s .routes)) (s .trial)) → Noted L c 1 (r .prefix) (r .payload) (r .payload) ys zs
         → (t : State P) × (next (L .rules) (add r) (some s) ≡ some t) × Means L zs t
     add-does ys zs e n =
         does-of L c (add r) ws zs s (changeTo s (insert r (s .routes)) (added r)) a refl
         (noted-encodes c 1 (r .prefix) (r .payload) (r .payload) (added r) ys zs (withTrial s (insert r (s .routes)) (s .trial)) (says-added L laid (r .prefix) (r .payload) (r .payload)) e
-        (a .capacityIs) (a .means .lawful .few) (add-quiet .1 .1 .1 .1 .0) n)
+        (a .capacityIs) (a .means .lawful .few) (taken-add .few) n)
 
   -- ---- delete
 
-  module _ (c : ℕ) (p : Prefix) (ws : List ℕ) (s : State P) (a : Accepts L c (delete p) ws s) where
-    delete-quiet : Quiet (due (L .rules) (delete p) (some s))
-    delete-quiet = lines L c (delete p) ws s a
-
-    gone : (r : Route P) × (find p (s .routes) ≡ some r)
-    gone = there p (s .routes) (not-false _ (delete-quiet .1 .1 .0))
+  module _ (c : ℕ) (h : Hand) (p : Prefix) (ws : List ℕ) (s : State P) (a : Accepts L c (delete h p) ws s) where
+    gone : DeleteTaken (L .rules) s p
+    gone = delete-taken (L .rules) s h p (accepts L c (delete h p) ws s a)
 
     pub delete-to-take : ToTake L c ws p s
-    delete-to-take = record { encodes = means-encodes L ws s (a .means); capacityIs = a .capacityIs; few = a .means .lawful .few; route = gone .0; there = gone .1 }
+    delete-to-take = record { encodes = means-encodes L ws s (a .means); capacityIs = a .capacityIs; few = a .means .lawful .few; route = gone .route; there = gone .there }
 
     pub delete-slot : (ys : List ℕ) → Encodes L ys (withTrial s (remove p (s .routes)) (s .trial)) → trialIn ys ≡ 1 → standingIn ys < L .rules .standing
-    delete-slot ys e = slot-free L ys (withTrial s (remove p (s .routes)) (s .trial)) e (a .means .lawful .few) (delete-quiet .1 .1 .1 .0)
+    delete-slot ys e = slot-free L ys (withTrial s (remove p (s .routes)) (s .trial)) e (a .means .lawful .few) (gone .few)
 
     pub delete-does : (ys zs : List ℕ) (old : P) → ((r : Route P) → find p (s .routes) ≡ some r → old ≡ r .payload) → Encodes L ys (withTrial s (remove p (s .routes)) (s .trial))
         → Noted L c 2 p old old ys zs
-        → (t : State P) × (next (L .rules) (delete p) (some s) ≡ some t) × Means L zs t
+        → (t : State P) × (next (L .rules) (delete h p) (some s) ≡ some t) × Means L zs t
     delete-does ys zs old held e n =
-        let r = gone .0 in
-        let h : old ≡ r .payload = held r (gone .1) in
-        let w : r .prefix ≡ p = find-held p r (s .routes) (gone .1) .1 in
-        let x : deleted (record { prefix = p; payload = old }) ≡ deleted r = λ i. deleted (record { prefix = sym w i; payload = h i }) in
-        does-of L c (delete p) ws zs s (changeTo s (remove p (s .routes)) (deleted r)) a (ap (λ (o : Option (Route P)). some (deleteFrom p s o)) (gone .1))
+        let r = gone .route in
+        let same : old ≡ r .payload = held r (gone .there) in
+        let w : r .prefix ≡ p = find-held p r (s .routes) (gone .there) .1 in
+        let x : deleted (record { prefix = p; payload = old }) ≡ deleted r = λ i. deleted (record { prefix = sym w i; payload = same i }) in
+        does-of L c (delete h p) ws zs s (changeTo s (remove p (s .routes)) (deleted r)) a (ap (λ (o : Option (Route P)). some (deleteFrom p s o)) (gone .there))
         (noted-encodes c 2 p old old (deleted r) ys zs (withTrial s (remove p (s .routes)) (s .trial)) (subst (Says L laid 2 p old old) x (says-deleted L laid p old old)) e
-        (a .capacityIs) (a .means .lawful .few) (delete-quiet .1 .1 .1 .0) n)
+        (a .capacityIs) (a .means .lawful .few) (gone .few) n)
 
   -- ---- change
 
   module _ (c : ℕ) (r : Route P) (ws : List ℕ) (s : State P) (a : Accepts L c (change r) ws s) where
-    change-quiet : Quiet (due (L .rules) (change r) (some s))
-    change-quiet = lines L c (change r) ws s a
-
-    was : (o : Route P) × (find (r .prefix) (s .routes) ≡ some o)
-    was = there (r .prefix) (s .routes) (not-false _ (change-quiet .1 .1 .1 .0))
+    was : ChangeTaken (L .rules) s r
+    was = change-taken (L .rules) s r (accepts L c (change r) ws s a)
 
     pub change-to-take : ToTake L c ws (r .prefix) s
-    change-to-take = record { encodes = means-encodes L ws s (a .means); capacityIs = a .capacityIs; few = a .means .lawful .few; route = was .0; there = was .1 }
+    change-to-take = record { encodes = means-encodes L ws s (a .means); capacityIs = a .capacityIs; few = a .means .lawful .few; route = was .route; there = was .there }
 
     pub change-slot : (ys : List ℕ) → Encodes L ys (withTrial s (replace r (s .routes)) (s .trial)) → trialIn ys ≡ 1 → standingIn ys < L .rules .standing
-    change-slot ys e = slot-free L ys (withTrial s (replace r (s .routes)) (s .trial)) e (a .means .lawful .few) (change-quiet .1 .1 .1 .1 .0)
+    change-slot ys e = slot-free L ys (withTrial s (replace r (s .routes)) (s .trial)) e (a .means .lawful .few) (was .few)
 
     pub change-does : (ys zs : List ℕ) (old : P) → ((o : Route P) → find (r .prefix) (s .routes) ≡ some o → old ≡ o .payload)
         → Encodes L ys (withTrial s (replace r (s .routes)) (s .trial))
         → Noted L c 3 (r .prefix) old (r .payload) ys zs → (t : State P) × (next (L .rules) (change r) (some s) ≡ some t) × Means L zs t
     change-does ys zs old held e n =
-        let h : old ≡ was .0 .payload = held (was .0) (was .1) in
-        let x : changed (r .prefix) old (r .payload) ≡ changed (r .prefix) (was .0 .payload) (r .payload) = ap (λ (o : P). changed (r .prefix) o (r .payload)) h in
-        let y = changed (r .prefix) (was .0 .payload) (r .payload) in
-        does-of L c (change r) ws zs s (changeTo s (replace r (s .routes)) y) a (ap (λ (o : Option (Route P)). some (changeAt r s o)) (was .1))
+        let h : old ≡ was .route .payload = held (was .route) (was .there) in
+        let x : changed (r .prefix) old (r .payload) ≡ changed (r .prefix) (was .route .payload) (r .payload) = ap (λ (o : P). changed (r .prefix) o (r .payload)) h in
+        let y = changed (r .prefix) (was .route .payload) (r .payload) in
+        does-of L c (change r) ws zs s (changeTo s (replace r (s .routes)) y) a (ap (λ (o : Option (Route P)). some (changeAt r s o)) (was .there))
         (noted-encodes c 3 (r .prefix) old (r .payload) y ys zs (withTrial s (replace r (s .routes)) (s .trial))
         (subst (Says L laid 3 (r .prefix) old (r .payload)) x (says-changed L laid (r .prefix) old (r .payload))) e
-        (a .capacityIs) (a .means .lawful .few) (change-quiet .1 .1 .1 .1 .0) n)
+        (a .capacityIs) (a .means .lawful .few) (was .few) n)
 
   -- ---- a trial opened, and kept
 

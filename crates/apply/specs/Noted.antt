@@ -1,4 +1,4 @@
--- A change recorded, and the hop that a prefix had before it.
+-- A change recorded, and the payload that a prefix had before it.
 use Prim.Native.Nat.{ℕ}
 use mathlib.Core.Path.{_≡_}
 use mathlib.Core.List.{List}
@@ -17,6 +17,6 @@ module _ {P : Type 0} (L : Layout P) where
     pub inTrial : trialIn ws ≡ 1 → zs ≡ writes (recordWrites L c (standingIn ws) action p old new) ws
     pub without : (trialIn ws ≡ 1 → ⊥) → zs ≡ ws
 
-  -- The hop of the route that has this prefix, where there is one.
-  abbrev pub HeldHop : ℕ → List ℕ → Prefix → P → Type 0
-  HeldHop c ws p h = (s : State P) → Means L ws s → s .capacity ≡ c → (r : Route P) → find p (s .routes) ≡ some r → h ≡ r .payload
+  -- The payload of the route that has this prefix, where there is one.
+  abbrev pub HeldPayload : ℕ → List ℕ → Prefix → P → Type 0
+  HeldPayload c ws p h = (s : State P) → Means L ws s → s .capacity ≡ c → (r : Route P) → find p (s .routes) ≡ some r → h ≡ r .payload

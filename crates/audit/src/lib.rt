@@ -11,7 +11,7 @@ mod head;
 ghost use mathlib.Core.Path.{_≡_};
 ghost use mathlib.Core.Bool.{true};
 ghost use mathlib.Core.Logic.{_↔_};
-ghost use Rattle.model.specs.Ipv4.{Hop};
+ghost use Rattle.model.specs.Ipv4.{Payload};
 ghost use Rattle.model.specs.State.{State};
 ghost use Rattle.pool.specs.Ipv4.{ipv4};
 ghost use Rattle.pool.specs.Means.{Means};
@@ -22,7 +22,7 @@ use shape::RootAudit;
 // Whether the words are a sound pool of this capacity.
 pub fn audit(pool: &[u32], capacity: usize) -> bool
     requires { ⌜ Fit ipv4 capacity (now pool) ⌝ }
-    ensures { λ r. ⌜ (r ≡ true) ↔ ((s : State Hop) × Means ipv4 (now (pool .entry)) s × (s .capacity ≡ capacity)) ⌝ }
+    ensures { λ r. ⌜ (r ≡ true) ↔ ((s : State Payload) × Means ipv4 (now (pool .entry)) s × (s .capacity ≡ capacity)) ⌝ }
 {
     if !head::head_is_good(pool, capacity) {
         return false;

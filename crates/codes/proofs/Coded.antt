@@ -7,18 +7,19 @@ use mathlib.Core.Option.{some}
 use native.Mathlib.Omega.{arith}
 use lib.ListN.{getD}
 use Rattle.model.specs.Prefix.{wellFormed}
-use Rattle.model.specs.Ipv4.{Hop as ModelHop, direct, via, reject, goodHop, mayHold}
+use Rattle.model.specs.Ipv4.{Hop as ModelHop, direct, via, reject, Origin as ModelOrigin, fixed, learned, Payload as ModelPayload, goodHop, mayHold}
 use Rattle.model.specs.State.{State}
 use Rattle.model.specs.Call.{add, change, Value, nothing, number}
-use Rattle.route.specs.Means.{prefixOf, hopOf, routeOf}
+use Rattle.route.specs.Means.{prefixOf, hopOf, originOf, routeOf}
+use Rattle.route.proofs.Laws.{never-zero}
 use Rattle.route.specs.Answers.{refusalNumber}
 use Rattle.route.specs.declared.prefix.Prefix.{Prefix}
 use Rattle.route.specs.declared.hop.Hop.{Hop}
+use Rattle.route.specs.declared.origin.Origin.{Origin}
 use Rattle.route.specs.declared.hop.Route.{Route}
 use Rattle.route.specs.declared.answer.Refusal.{Refusal}
-use Rattle.route.specs.declared.answer.Refusal.the-variants as why
 use Rattle.pool.specs.Ipv4.{ipv4}
-use Rattle.codes.specs.Codes.{prefixIn, hopIn, routeIn, hopWords, routeWords}
+use Rattle.codes.specs.Codes.{prefixIn, hopIn, routeIn, hopWords, originWords}
 use Rattle.codes.specs.Out.{Out, Exactly, valueWords}
 
 -- ---- hops
@@ -28,11 +29,11 @@ no-hop : (k p g : ℕ) → goodHop (hopIn (suc (suc (suc k))) p g) ≡ false
 unfolding goodHop
 no-hop k p g = refl
 
-module _ (a n k p g : ℕ) (s : State ModelHop) (good : wellFormed 32 (prefixIn a n) ≡ true) where
-  pub add-gives-4 : mayHold (prefixIn a n) ≡ true → number (ipv4 .rules) (add (routeIn a n (suc (suc (suc k))) p g)) (some s) ≡ 4
+module _ (a n k p g : ℕ) (o : ModelOrigin) (s : State ModelPayload) (good : wellFormed 32 (prefixIn a n) ≡ true) where
+  pub add-gives-4 : mayHold (prefixIn a n) ≡ true → number (ipv4 .rules) (add (routeIn a n (suc (suc (suc k))) p g o)) (some s) ≡ 4
   add-gives-4 may = rw (good, may, no-hop k p g)
 
-  pub change-gives-4 : number (ipv4 .rules) (change (routeIn a n (suc (suc (suc k))) p g)) (some s) ≡ 4
+  pub change-gives-4 : number (ipv4 .rules) (change (routeIn a n (suc (suc (suc k))) p g o)) (some s) ≡ 4
   change-gives-4 = rw (good, no-hop k p g)
 
 -- what each kind means
@@ -57,47 +58,36 @@ out-and-in (direct p) = refl
 out-and-in (via p g) = refl
 out-and-in reject = refl
 
+-- So is an origin.
+abbrev originIn : ℕ → ℕ → ModelOrigin
+originIn zero m = fixed
+originIn (suc k) m = learned m
+
+pub origin-out-and-in : (o : ModelOrigin) → originIn (getD (originWords o) 0 0) (getD (originWords o) 1 0) ≡ o
+origin-out-and-in fixed = refl
+origin-out-and-in (learned m) = refl
+
 -- ---- routes and prefixes
 
 pub prefix-in : (p : Prefix) {a n : ℕ} → p .address ≡ a → p .length .0 ≡ n → prefixOf p ≡ prefixIn a n
 prefix-in p e f = rw (e, f)
 
-pub route-in : (p : Prefix) (h : Hop) {a n : ℕ} {x : ModelHop} → p .address ≡ a → p .length .0 ≡ n → hopOf h ≡ x
-    → routeOf (record { prefix = p; hop = h }) ≡ record { prefix = prefixIn a n; payload = x }
-route-in p h e f d = rw (e, f, d)
-
-pub route-words : (r : Route) (h : Hop) → r .hop ≡ h → r .prefix .address ∷ r .prefix .length .0 ∷ hopWords (hopOf h) ≡ routeWords (routeOf r)
-route-words r h e = rw e
+pub route-in : (p : Prefix) (h : Hop) (o : Origin) {a n : ℕ} {x : ModelHop} → p .address ≡ a → p .length .0 ≡ n → hopOf h ≡ x
+    → routeOf (record { prefix = p; payload = record { hop = h; origin = o } }) ≡ record { prefix = prefixIn a n; payload = record { hop = x; origin = originOf o } }
+route-in p h o e f d = rw (e, f, d)
 
 -- ---- out-parameters
 
--- no refusal has the number 0
-refusal-is : (x : Refusal) → refusalNumber x ≡ 0 → ⊥
-refusal-is why.BadCapacity z = omega (arith, z)
-refusal-is why.ShortBuffer z = omega (arith, z)
-refusal-is why.BadPrefix z = omega (arith, z)
-refusal-is why.BadHop z = omega (arith, z)
-refusal-is why.AlreadyThere z = omega (arith, z)
-refusal-is why.NotThere z = omega (arith, z)
-refusal-is why.TableFull z = omega (arith, z)
-refusal-is why.TrialFull z = omega (arith, z)
-refusal-is why.NotSound z = omega (arith, z)
-refusal-is why.TrialIsOpen z = omega (arith, z)
-refusal-is why.NoTrial z = omega (arith, z)
-refusal-is why.NothingStanding z = omega (arith, z)
-refusal-is why.NoMatch z = omega (arith, z)
-refusal-is why.NoFurther z = omega (arith, z)
-
 -- a refusal, with nothing written
-pub out-refused : {P : ℕ → Value ModelHop → Type 0} (x : Refusal) {m n : ℕ} {w : Value ModelHop} {before : List ℕ} → m ≡ refusalNumber x → w ≡ nothing → n ≡ m → P m w
+pub out-refused : {P : ℕ → Value ModelPayload → Type 0} (x : Refusal) {m n : ℕ} {w : Value ModelPayload} {before : List ℕ} → m ≡ refusalNumber x → w ≡ nothing → n ≡ m → P m w
     → Out P n before before
-out-refused x {w = w} e f g p = record { shown = w; promised = rw g p; written = λ z. absurd (refusal-is x (sym e ∙ sym g ∙ z)); kept = λ z. refl }
+out-refused x {w = w} e f g p = record { shown = w; promised = rw g p; written = λ z. absurd (never-zero x (sym e ∙ sym g ∙ z)); kept = λ z. refl }
 
 -- an answer, written
-pub out-shown : {P : ℕ → Value ModelHop → Type 0} (v : Value ModelHop) {m : ℕ} {w : Value ModelHop} {before after : List ℕ} → m ≡ 0 → w ≡ v → after ≡ valueWords v → P m w
+pub out-shown : {P : ℕ → Value ModelPayload → Type 0} (v : Value ModelPayload) {m : ℕ} {w : Value ModelPayload} {before after : List ℕ} → m ≡ 0 → w ≡ v → after ≡ valueWords v → P m w
     → Out P 0 before after
 out-shown v {w = w} e f g p = record { shown = w; promised = rw e at p; written = λ z. rw f g; kept = λ z. absurd (z refl) }
 
 -- what was shown of an answer, of which more is promised
-pub out-of : {P : ℕ → Value ModelHop → Type 0} {m n : ℕ} {w : Value ModelHop} {before after : List ℕ} → Out (Exactly m w) n before after → P m w → Out P n before after
+pub out-of : {P : ℕ → Value ModelPayload → Type 0} {m n : ℕ} {w : Value ModelPayload} {before after : List ℕ} → Out (Exactly m w) n before after → P m w → Out P n before after
 out-of o p = record { shown = o .shown; promised = rw (o .promised .0, o .promised .1) p; written = o .written; kept = o .kept }

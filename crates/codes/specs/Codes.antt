@@ -1,11 +1,11 @@
--- How the C interface says a prefix, a hop and a route in words.
+-- How the C interface says a prefix, a hop, an origin and a route in words.
 use Prim.Native.Nat.{ℕ, zero, suc}
 use mathlib.Core.Bool.{cond, _||_}
-use mathlib.Core.List.{List, [], _∷_}
+use mathlib.Core.List.{List, [], _∷_, _++_}
 use lib.Dec.{eqb, ltb}
 use Rattle.model.specs.Prefix.{Prefix}
 use Rattle.model.specs.Routes.{Route}
-use Rattle.model.specs.Ipv4.{Hop, direct, via, reject}
+use Rattle.model.specs.Ipv4.{Hop, direct, via, reject, Origin, fixed, learned, Payload}
 use Rattle.pool.specs.Layout.{size}
 use Rattle.pool.specs.Ipv4.{ipv4}
 
@@ -25,9 +25,9 @@ hopIn (suc zero) p g = via p g
 hopIn (suc (suc zero)) p g = reject
 hopIn (suc (suc (suc k))) p g = direct 16
 
--- The route that five words mean.
-abbrev pub routeIn : ℕ → ℕ → ℕ → ℕ → ℕ → Route Hop
-routeIn a n k p g = record { prefix = prefixIn a n; payload = hopIn k p g }
+-- The route that five words mean, of an origin.
+abbrev pub routeIn : ℕ → ℕ → ℕ → ℕ → ℕ → Origin → Route Payload
+routeIn a n k p g o = record { prefix = prefixIn a n; payload = record { hop = hopIn k p g; origin = o } }
 
 -- The words of a hop: kind, port, gateway. What a kind does not use is 0.
 abbrev pub hopWords : Hop → List ℕ
@@ -35,6 +35,11 @@ hopWords (direct p) = 0 ∷ p ∷ 0 ∷ []
 hopWords (via p g) = 1 ∷ p ∷ g ∷ []
 hopWords reject = 2 ∷ 0 ∷ 0 ∷ []
 
--- The five words of a route: address, length, kind, port, gateway.
-abbrev pub routeWords : Route Hop → List ℕ
-routeWords r = r .prefix .address ∷ r .prefix .length ∷ hopWords (r .payload)
+-- The words of an origin: 0 fixed, 1 learned; and the metric, 0 where there is none.
+abbrev pub originWords : Origin → List ℕ
+originWords fixed = 0 ∷ 0 ∷ []
+originWords (learned m) = 1 ∷ m ∷ []
+
+-- The seven words of a route: address, length, kind, port, gateway, origin, metric.
+abbrev pub routeWords : Route Payload → List ℕ
+routeWords r = r .prefix .address ∷ r .prefix .length ∷ (hopWords (r .payload .hop) ++ originWords (r .payload .origin))

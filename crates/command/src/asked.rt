@@ -1,4 +1,5 @@
 use numeral::Fault;
+use route::Hand;
 use route::Prefix;
 use route::Route;
 
@@ -7,7 +8,7 @@ pub enum Command {
     Nothing,
     Fresh(u32),
     Add(Route),
-    Delete(Prefix),
+    Delete(Hand, Prefix),
     Change(Route),
     Lookup(u32),
     First,

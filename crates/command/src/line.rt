@@ -1,6 +1,7 @@
 use super::asked::Command;
 use super::phrase::TakenPrefix;
 use super::phrase::TakenRoute;
+use super::phrase::is_learned;
 use super::phrase::take_prefix;
 use super::phrase::take_route;
 use check::same;
@@ -11,6 +12,7 @@ use numeral::take_address;
 use numeral::take_number;
 use numeral::uncommented;
 use numeral::word_at;
+use route::Hand;
 
 // A command whose last word was read: another word is one too many.
 fn last(line: &[u8], end: usize, command: Command) -> Command {
@@ -62,7 +64,14 @@ fn poke(line: &[u8], at: usize) -> Command {
 
 fn delete(line: &[u8], at: usize) -> Command {
     match take_prefix(line, at) {
-        TakenPrefix::Value(prefix, end) => last(line, end, Command::Delete(prefix)),
+        TakenPrefix::Value(prefix, end) => {
+            if is_learned(line, end) {
+                let behind = after(line, end);
+                last(line, behind, Command::Delete(Hand::Learner, prefix))
+            } else {
+                last(line, end, Command::Delete(Hand::Plain, prefix))
+            }
+        }
         TakenPrefix::Wrong(fault) => Command::Wrong(fault),
     }
 }

@@ -1,6 +1,6 @@
-// The words of a line that stand for a prefix, a hop or a route. What a word is, and which number or address it says, is promised
-// in `numeral`. Which words make a prefix, a hop or a route is not promised here: stated in a contract, that grammar would be
-// this code again. The second program, written apart from it, is held to it.
+// The words of a line that stand for a prefix, a hop, an origin or a route. What a word is, and which number or address it says,
+// is promised in `numeral`. Which words make which of them is not promised here: stated in a contract, that grammar would be this
+// code again. The second program, written apart from it, is held to it.
 use check::same;
 use numeral::Fault;
 use numeral::Number;
@@ -13,6 +13,9 @@ use numeral::take_number;
 use numeral::word_at;
 use route::Hop;
 use route::Length;
+use route::Metric;
+use route::Origin;
+use route::Payload;
 use route::Port;
 use route::Prefix;
 use route::Route;
@@ -26,6 +29,18 @@ pub(crate) enum TakenPrefix {
 // A hop and the place behind it, or what is wrong.
 enum TakenHop {
     Value(Hop, usize),
+    Wrong(Fault),
+}
+
+// An origin and the place behind it, or what is wrong.
+enum TakenOrigin {
+    Value(Origin, usize),
+    Wrong(Fault),
+}
+
+// A hop and an origin and the place behind them, or what is wrong.
+enum TakenPayload {
+    Value(Payload, usize),
     Wrong(Fault),
 }
 
@@ -114,12 +129,38 @@ fn take_hop(line: &[u8], from: usize) -> TakenHop {
     TakenHop::Wrong(Fault::BadHop)
 }
 
-// A route is a prefix and a hop. It has no promise, as said above.
+// Whether the next word says that a route was learned, or that a learner asks. It has no promise, as said above.
+pub(crate) fn is_learned(line: &[u8], from: usize) -> bool {
+    same(word_at(line, from), b"learned")
+}
+
+// The word learned and a metric; a route that has none is fixed. Another word is left for what reads on.
+fn take_origin(line: &[u8], from: usize) -> TakenOrigin {
+    if !is_learned(line, from) {
+        return TakenOrigin::Value(Origin::Fixed, from);
+    }
+    match take_number(line, after(line, from)) {
+        Taken::Value(metric, end) => TakenOrigin::Value(Origin::Learned(Metric(metric)), end),
+        Taken::Wrong(fault) => TakenOrigin::Wrong(fault),
+    }
+}
+
+fn take_payload(line: &[u8], from: usize) -> TakenPayload {
+    match take_hop(line, from) {
+        TakenHop::Value(hop, next) => match take_origin(line, next) {
+            TakenOrigin::Value(origin, end) => TakenPayload::Value(Payload { hop, origin }, end),
+            TakenOrigin::Wrong(fault) => TakenPayload::Wrong(fault),
+        },
+        TakenHop::Wrong(fault) => TakenPayload::Wrong(fault),
+    }
+}
+
+// A route is a prefix, a hop and an origin. It has no promise, as said above.
 pub(crate) fn take_route(line: &[u8], from: usize) -> TakenRoute {
     match take_prefix(line, from) {
-        TakenPrefix::Value(prefix, next) => match take_hop(line, next) {
-            TakenHop::Value(hop, end) => TakenRoute::Value(Route { prefix, hop }, end),
-            TakenHop::Wrong(fault) => TakenRoute::Wrong(fault),
+        TakenPrefix::Value(prefix, next) => match take_payload(line, next) {
+            TakenPayload::Value(payload, end) => TakenRoute::Value(Route { prefix, payload }, end),
+            TakenPayload::Wrong(fault) => TakenRoute::Wrong(fault),
         },
         TakenPrefix::Wrong(fault) => TakenRoute::Wrong(fault),
     }

@@ -18,9 +18,9 @@ fn write_route(pool: &mut [u32], place: Place, route: Route, next: u32)
     ensures { λ _. ⌜ now (pool .exit) ≡ writes (routeWrites ipv4 (place .0) (routeOf route) next) (now (pool .entry)) ⌝ }
 {
     let at = pool::seat(place);
-    let hop = route.hop;
+    let payload = route.payload;
     let prefix = route.prefix;
-    pool::write_hop(pool, at, hop);
+    pool::write_payload(pool, at, payload);
     pool::write_prefix(pool, at + pool::PREFIX_OFFSET, prefix);
     pool[at + pool::NEXT_OFFSET] = next;
 }

@@ -2,6 +2,7 @@
 // a pointer and a count of words, an array as a pointer. `include/rishavand.h` is this page in C.
 mod beginning;
 mod changing;
+mod learning;
 mod reading;
 
 pub use beginning::rishavand_fresh;
@@ -13,6 +14,9 @@ pub use changing::rishavand_delete;
 pub use changing::rishavand_keep;
 pub use changing::rishavand_open;
 pub use changing::rishavand_step_back;
+pub use learning::rishavand_learned_add;
+pub use learning::rishavand_learned_change;
+pub use learning::rishavand_learned_delete;
 pub use reading::rishavand_first;
 pub use reading::rishavand_lookup;
 pub use reading::rishavand_mask_length;

@@ -23,7 +23,7 @@ pub extern "C" fn rishavand_sound(pool: &[u32]) -> u32
 }
 
 #[no_mangle]
-pub extern "C" fn rishavand_lookup(pool: &[u32], destination: u32, route: &mut [u32; 5]) -> u32
+pub extern "C" fn rishavand_lookup(pool: &[u32], destination: u32, route: &mut [u32; 7]) -> u32
     ensures { λ r. ⌜ Out (LookupPromise (tree ipv4) destination (now (pool .entry))) r (now (route .entry)) (now (route .exit)) ⌝ }
 {
     let answer = table::lookup(pool, destination);
@@ -31,7 +31,7 @@ pub extern "C" fn rishavand_lookup(pool: &[u32], destination: u32, route: &mut [
 }
 
 #[no_mangle]
-pub extern "C" fn rishavand_first(pool: &[u32], route: &mut [u32; 5]) -> u32
+pub extern "C" fn rishavand_first(pool: &[u32], route: &mut [u32; 7]) -> u32
     ensures { λ r. ⌜ Out (Promise (tree ipv4) call.first (now (pool .entry)) (now (pool .entry))) r (now (route .entry)) (now (route .exit)) ⌝ }
 {
     let answer = table::first(pool);
@@ -43,7 +43,7 @@ pub extern "C" fn rishavand_next(
     pool: &[u32],
     address: u32,
     length: u32,
-    route: &mut [u32; 5],
+    route: &mut [u32; 7],
 ) -> u32
     ensures { λ r. ⌜ Out (Promise (tree ipv4) (call.after (prefixIn address length)) (now (pool .entry)) (now (pool .entry))) r (now (route .entry)) (now (route .exit)) ⌝ }
 {

@@ -1,14 +1,14 @@
-// The rows of words that a route taken out, or another hop, writes: each function writes just the words that its row names.
+// The rows of words that a route taken out, or another payload, writes: each function writes just the words that its row names.
 ghost use mathlib.Core.Path.{_≡_};
 ghost use Prim.Native.Nat.{_+_, _≤_, _<_};
 ghost use lib.ListN.{length};
-ghost use Rattle.route.specs.Means.{hopOf};
+ghost use Rattle.route.specs.Means.{payloadOf};
 ghost use Rattle.pool.specs.Layout as layout;
 ghost use Rattle.pool.specs.Write.{writes};
 ghost use Rattle.pool.specs.Ipv4.{ipv4};
 ghost use Rattle.rows.specs.Writes.{linkWrites, dropWrites, lastWrites, swapWrites};
 use pool::Place;
-use route::Hop;
+use route::Payload;
 
 // A route out of a chain that goes on: the cell links past it.
 pub fn take_link(pool: &mut [u32], cell: usize, place: Place)
@@ -57,11 +57,11 @@ pub fn take_last(pool: &mut [u32], place: Place)
     pool[pool::AT_COUNT] = count - 1;
 }
 
-// Another hop in a place.
-pub fn swap_hop(pool: &mut [u32], place: Place, hop: Hop)
+// Another payload in a place.
+pub fn swap_payload(pool: &mut [u32], place: Place, payload: Payload)
     requires { ⌜ (ipv4 .seat (place .0) + ipv4 .nextOffset < length (now pool)) × (place .0 ≤ 65535) ⌝ }
-    ensures { λ _. ⌜ now (pool .exit) ≡ writes (swapWrites ipv4 (place .0) (hopOf hop)) (now (pool .entry)) ⌝ }
+    ensures { λ _. ⌜ now (pool .exit) ≡ writes (swapWrites ipv4 (place .0) (payloadOf payload)) (now (pool .entry)) ⌝ }
 {
     let at = pool::seat(place);
-    pool::write_hop(pool, at, hop);
+    pool::write_payload(pool, at, payload);
 }

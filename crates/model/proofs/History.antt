@@ -10,14 +10,15 @@ use lib.Dec.{eqb, eqb·suc-zero}
 use lib.ListN.{length}
 use Rattle.model.specs.Prefix.{Prefix}
 use Rattle.model.specs.Routes.{Route}
-use Rattle.model.specs.State.{Rules, Change, added, deleted, changed, Trial, closed, opened, State, Meaning, empty, isOpen, changes, undo, undoAll}
+use Rattle.model.specs.State.{Hand, Rules, Change, added, deleted, changed, Trial, closed, opened, State, Meaning, empty, isOpen, changes, undo, undoAll}
 use Rattle.model.specs.Call.{Call, fresh, add, delete, change, lookup, first, after, room, mask, openTrial, keep, backOut, stepBack, due, number, accepted, changeTo, withTrial, steppedBack, done, next}
 use Rattle.model.specs.Lawful.{Lawful}
 use Rattle.model.specs.History.{Deed, put, drop, swap, Told, noted, heard, heardIf, told, act, replay}
 use Rattle.model.proofs.Tests.{both}
 use Rattle.model.proofs.Undo.{add-records, delete-records, change-records}
 use Rattle.model.proofs.Numbers.{Quiet, accepted-quiet}
-use Rattle.model.proofs.Lawful.{Recorded, recorded-add, recorded-delete, recorded-change, absent, there, LawfulMeaning, next-lawful, empty-lawful}
+use Rattle.model.proofs.Taken.{add-taken, delete-taken, change-taken}
+use Rattle.model.proofs.Lawful.{Recorded, recorded-add, recorded-delete, recorded-change, LawfulMeaning, next-lawful, empty-lawful}
 
 module _ {P : Type 0} (R : Rules P) where
   -- ---- step back restores the state before the change
@@ -34,29 +35,23 @@ module _ {P : Type 0} (R : Rules P) where
 
   pub changed-add : (r : Route P) (s : State P) → Lawful R s → accepted R (add r) (some s) ≡ true → Changed s (add r) (put r)
   changed-add r s w t =
-      let q = accepted-quiet R (add r) (some s) t in
-      let may = both _ (R .mayHold (r .prefix)) (not-false _ (q .1 .0)) in record {
-        change = added r;
-        result = rw t (add-records r s);
-        recorded = recorded-add R (s .routes) (w .ordered) (w .obeyed) r (absent (r .prefix) (s .routes) (q .1 .1 .1 .0)) (may .0, may .1, not-false _ (q .1 .1 .0));
-      }
+      let q = add-taken R s r t in
+      record { change = added r; result = rw t (add-records r s); recorded = recorded-add R (s .routes) (w .ordered) (w .obeyed) r (q .absent) (q .obeys) }
 
-  pub changed-delete : (p : Prefix) (s : State P) → Lawful R s → accepted R (delete p) (some s) ≡ true → Changed s (delete p) (drop p)
-  changed-delete p s w t =
-      let q = accepted-quiet R (delete p) (some s) t in
-      let f = there p (s .routes) (not-false _ (q .1 .1 .0)) in record {
-        change = deleted (f .0);
-        result = rw t (delete-records p (f .0) s (f .1));
-        recorded = recorded-delete R (s .routes) (w .ordered) (w .obeyed) p (f .0) (f .1);
+  pub changed-delete : (h : Hand) (p : Prefix) (s : State P) → Lawful R s → accepted R (delete h p) (some s) ≡ true → Changed s (delete h p) (drop p)
+  changed-delete h p s w t =
+      let q = delete-taken R s h p t in record {
+        change = deleted (q .route);
+        result = rw t (delete-records h p (q .route) s (q .there));
+        recorded = recorded-delete R (s .routes) (w .ordered) (w .obeyed) p (q .route) (q .there);
       }
 
   pub changed-change : (r : Route P) (s : State P) → Lawful R s → accepted R (change r) (some s) ≡ true → Changed s (change r) (swap r)
   changed-change r s w t =
-      let q = accepted-quiet R (change r) (some s) t in
-      let f = there (r .prefix) (s .routes) (not-false _ (q .1 .1 .1 .0)) in record {
-        change = changed (r .prefix) (f .0 .payload) (r .payload);
-        result = rw t (change-records r (f .0) s (f .1));
-        recorded = recorded-change R (s .routes) (w .ordered) (w .obeyed) r (f .0) (f .1) (not-false _ (q .1 .1 .0));
+      let q = change-taken R s r t in record {
+        change = changed (r .prefix) (q .route .payload) (r .payload);
+        result = rw t (change-records r (q .route) s (q .there));
+        recorded = recorded-change R (s .routes) (w .ordered) (w .obeyed) r (q .route) (q .there) (q .good);
       }
 
   -- "step back takes back the newest recorded change": in an open trial the state before it is there again
@@ -67,9 +62,9 @@ module _ {P : Type 0} (R : Rules P) where
       → next R stepBack (next R (add r) (some s)) ≡ some s
   add-taken-back s r cs w e t = taken-back s (add r) (put r) cs (changed-add r s w t) e
 
-  pub delete-taken-back : (s : State P) (p : Prefix) (cs : List (Change P)) → Lawful R s → s .trial ≡ opened cs → accepted R (delete p) (some s) ≡ true
-      → next R stepBack (next R (delete p) (some s)) ≡ some s
-  delete-taken-back s p cs w e t = taken-back s (delete p) (drop p) cs (changed-delete p s w t) e
+  pub delete-taken-back : (s : State P) (h : Hand) (p : Prefix) (cs : List (Change P)) → Lawful R s → s .trial ≡ opened cs → accepted R (delete h p) (some s) ≡ true
+      → next R stepBack (next R (delete h p) (some s)) ≡ some s
+  delete-taken-back s h p cs w e t = taken-back s (delete h p) (drop p) cs (changed-delete h p s w t) e
 
   pub change-taken-back : (s : State P) (r : Route P) (cs : List (Change P)) → Lawful R s → s .trial ≡ opened cs → accepted R (change r) (some s) ≡ true
       → next R stepBack (next R (change r) (some s)) ≡ some s
@@ -170,7 +165,7 @@ module _ {P : Type 0} (R : Rules P) where
   heard-agrees (fresh c n) s z t w a k e f =
       let g : z ≡ empty c = cc in subst (λ (x : State P). Agrees x (heard (fresh c n) t)) (sym g) (record { capacity = refl; made = refl; trial = (refl, refl) })
   heard-agrees (add r) s z t w a k e f = told-change s t (add r) (put r) a (changed-add r s w k) z e
-  heard-agrees (delete p) s z t w a k e f = told-change s t (delete p) (drop p) a (changed-delete p s w k) z e
+  heard-agrees (delete h p) s z t w a k e f = told-change s t (delete h p) (drop p) a (changed-delete h p s w k) z e
   heard-agrees (change r) s z t w a k e f = told-change s t (change r) (swap r) a (changed-change r s w k) z e
   heard-agrees (lookup d) s z t w a k e f = let g : z ≡ s = cc in subst (λ (x : State P). Agrees x t) (sym g) a
   heard-agrees first s z t w a k e f = let g : z ≡ s = cc in subst (λ (x : State P). Agrees x t) (sym g) a
@@ -208,7 +203,7 @@ module _ {P : Type 0} (R : Rules P) where
   done-some : (c : Call P) (s : State P) → (z : State P) × (done c (some s) ≡ some z)
   done-some (fresh c n) s = (_, refl)
   done-some (add r) s = (_, refl)
-  done-some (delete p) s = (_, refl)
+  done-some (delete h p) s = (_, refl)
   done-some (change r) s = (_, refl)
   done-some (lookup d) s = (_, refl)
   done-some first s = (_, refl)

@@ -12,32 +12,17 @@ use lib.Dec.{eqb}
 use lib.ListN.{length}
 use Rattle.model.specs.Prefix.{Prefix, wellFormed}
 use Rattle.model.specs.Routes.{Route, Held, InOrder, find, present, holds, insert, remove, replace}
-use Rattle.model.specs.State.{Rules, Change, added, deleted, changed, Trial, closed, opened, State, Meaning, empty, changes, undo, undoAll}
+use Rattle.model.specs.State.{Rules, goodPayload, Change, added, deleted, changed, Trial, closed, opened, State, Meaning, empty, changes, undo, undoAll}
 use Rattle.model.specs.Call.{Call, fresh, add, delete, change, lookup, first, after, room, mask, openTrial, keep, backOut, stepBack, due, accepted, trialFull, changeTo, deleteFrom, changeAt, withTrial, steppedBack, done, next}
 use Rattle.model.specs.Lawful.{Obeys, AllObey, ChangeObeys, AllChangesObey, CanUndo, Undoable, Lawful}
 use Rattle.model.proofs.Tests.{both, fails, or-left, or-right}
-use Rattle.model.proofs.Routes.{find-held}
+use Rattle.model.proofs.Routes.{find-held, there, absent}
 use Rattle.model.proofs.Edits.{insert-order, insert-held, insert-found, length-insert, remove-order, remove-absent, remove-held, length-remove, replace-order, replace-held, replace-found, length-replace}
-use Rattle.model.proofs.Undo.{undo-add, undo-delete, undo-change}
-use Rattle.model.proofs.Numbers.{Quiet, accepted-quiet}
+use Rattle.model.proofs.Undo.{delete-records, change-records, undo-add, undo-delete, undo-change}
+use Rattle.model.proofs.Numbers.{accepted-quiet}
+use Rattle.model.proofs.Taken.{AddTaken, add-taken, DeleteTaken, delete-taken, ChangeTaken, change-taken}
 
 module _ {P : Type 0} where
-  -- ---- a prefix that is there has its route
-
-  pub there : (p : Prefix) (l : List (Route P)) → holds p l ≡ true → (r : Route P) × (find p l ≡ some r)
-  there p l t = go (find p l) refl
-    where
-      go : (o : Option (Route P)) → find p l ≡ o → (r : Route P) × (find p l ≡ some r)
-      go none e = absurd (true≢false (sym t ∙ ap present e))
-      go (some r) e = (r, e)
-
-  pub absent : (p : Prefix) (l : List (Route P)) → holds p l ≡ false → find p l ≡ none
-  absent p l t = go (find p l) refl
-    where
-      go : (o : Option (Route P)) → find p l ≡ o → find p l ≡ none
-      go none e = e
-      go (some r) e = absurd (true≢false (sym (ap present e) ∙ t))
-
   -- taking one change back keeps the order
   pub undo-order : (c : Change P) (l : List (Route P)) → InOrder l → CanUndo c l → InOrder (undo c l)
   undo-order (added r) l o u = remove-order (r .prefix) l o
@@ -127,7 +112,7 @@ module _ {P : Type 0} (R : Rules P) where
           back = undo-delete p r l o e;
         }
 
-    pub recorded-change : (r old : Route P) → find (r .prefix) l ≡ some old → R .goodHop (r .prefix) (r .payload) ≡ true
+    pub recorded-change : (r old : Route P) → find (r .prefix) l ≡ some old → goodPayload R (r .prefix) (r .payload) ≡ true
         → Recorded l (replace r l) (changed (r .prefix) (old .payload) (r .payload))
     recorded-change r old e g =
         let w = find-held (r .prefix) old l e in
@@ -139,30 +124,26 @@ module _ {P : Type 0} (R : Rules P) where
 
   -- ---- every call
 
-  add-lawful : (r : Route P) (s : State P) → Lawful R s → Quiet (due R (add r) (some s)) → Lawful R (changeTo s (insert r (s .routes)) (added r))
+  add-lawful : (r : Route P) (s : State P) → Lawful R s → AddTaken R s r → Lawful R (changeTo s (insert r (s .routes)) (added r))
   add-lawful r s w q =
-      let may = both (wellFormed (R .width) (r .prefix)) (R .mayHold (r .prefix)) (not-false _ (q .1 .0)) in
-      let b : Obeys R (r .prefix) (r .payload) = (may .0, may .1, not-false _ (q .1 .1 .0)) in
-      let e = absent (r .prefix) (s .routes) (q .1 .1 .1 .0) in
-      let room : suc (length (s .routes)) ≤ s .capacity = omega (arith, w .noMore, eqb-false (length (s .routes)) (s .capacity) (q .1 .1 .1 .1 .1 .0)) in
-      record-lawful s (insert r (s .routes)) (added r) w (q .1 .1 .1 .1 .0) (recorded-add (s .routes) (w .ordered) (w .obeyed) r e b)
-      (le-trans (le-of-eq (length-insert r (s .routes))) room) (insert-obeys r (s .routes) b (w .obeyed)) (insert-order r (s .routes) (w .ordered) e)
+      let room : suc (length (s .routes)) ≤ s .capacity = omega (arith, w .noMore, eqb-false (length (s .routes)) (s .capacity) (q .room)) in
+      record-lawful s (insert r (s .routes)) (added r) w (q .few) (recorded-add (s .routes) (w .ordered) (w .obeyed) r (q .absent) (q .obeys))
+      (le-trans (le-of-eq (length-insert r (s .routes))) room) (insert-obeys r (s .routes) (q .obeys) (w .obeyed)) (insert-order r (s .routes) (w .ordered) (q .absent))
 
-  delete-lawful : (p : Prefix) (s : State P) (o : Option (Route P)) → find p (s .routes) ≡ o → Lawful R s → Quiet (due R (delete p) (some s)) → Lawful R (deleteFrom p s o)
-  delete-lawful p s none e w q = w
-  delete-lawful p s (some r) e w q =
-      let less : suc (length (remove p (s .routes))) ≡ length (s .routes) = length-remove p r (s .routes) e in
+  delete-lawful : (p : Prefix) (s : State P) → Lawful R s → (q : DeleteTaken R s p) → Lawful R (changeTo s (remove p (s .routes)) (deleted (q .route)))
+  delete-lawful p s w q =
+      let less : suc (length (remove p (s .routes))) ≡ length (s .routes) = length-remove p (q .route) (s .routes) (q .there) in
       let fits : length (remove p (s .routes)) ≤ s .capacity = omega (arith, w .noMore, less) in
-      record-lawful s (remove p (s .routes)) (deleted r) w (q .1 .1 .1 .0) (recorded-delete (s .routes) (w .ordered) (w .obeyed) p r e)
+      record-lawful s (remove p (s .routes)) (deleted (q .route)) w (q .few) (recorded-delete (s .routes) (w .ordered) (w .obeyed) p (q .route) (q .there))
       fits (remove-obeys p (s .routes) (w .ordered) (w .obeyed)) (remove-order p (s .routes) (w .ordered))
 
-  change-lawful : (r : Route P) (s : State P) (o : Option (Route P)) → find (r .prefix) (s .routes) ≡ o → Lawful R s → Quiet (due R (change r) (some s)) → Lawful R (changeAt r s o)
-  change-lawful r s none e w q = w
-  change-lawful r s (some old) e w q =
-      let d = recorded-change (s .routes) (w .ordered) (w .obeyed) r old e (not-false _ (q .1 .1 .0)) in
-      record-lawful s (replace r (s .routes)) (changed (r .prefix) (old .payload) (r .payload)) w (q .1 .1 .1 .1 .0) d
-      (le-trans (le-of-eq (length-replace r old (s .routes) (w .ordered) e)) (w .noMore))
-      (replace-obeys r old (s .routes) (w .ordered) e (d .obeys .1) (w .obeyed)) (replace-order r old (s .routes) (w .ordered) e)
+  change-lawful : (r : Route P) (s : State P) → Lawful R s → (q : ChangeTaken R s r)
+      → Lawful R (changeTo s (replace r (s .routes)) (changed (r .prefix) (q .route .payload) (r .payload)))
+  change-lawful r s w q =
+      let d = recorded-change (s .routes) (w .ordered) (w .obeyed) r (q .route) (q .there) (q .good) in
+      record-lawful s (replace r (s .routes)) (changed (r .prefix) (q .route .payload) (r .payload)) w (q .few) d
+      (le-trans (le-of-eq (length-replace r (q .route) (s .routes) (w .ordered) (q .there))) (w .noMore))
+      (replace-obeys r (q .route) (s .routes) (w .ordered) (q .there) (d .obeys .1) (w .obeyed)) (replace-order r (q .route) (s .routes) (w .ordered) (q .there))
 
   -- a lawful state with no change standing
   bare-lawful : (s : State P) (l : List (Route P)) (t : Trial P) → changes t ≡ [] → Lawful R s → length l ≤ s .capacity → AllObey R l → InOrder l → Lawful R (withTrial s l t)
@@ -217,11 +198,13 @@ module _ {P : Type 0} (R : Rules P) where
   done-lawful : (c : Call P) (m : Meaning P) → accepted R c m ≡ true → LawfulMeaning m → LawfulMeaning (done c m)
   done-lawful (fresh c n) m t w = empty-lawful c n m t
   done-lawful (add r) none t w = tt
-  done-lawful (add r) (some s) t w = add-lawful r s w (accepted-quiet R (add r) (some s) t)
-  done-lawful (delete p) none t w = tt
-  done-lawful (delete p) (some s) t w = delete-lawful p s (find p (s .routes)) refl w (accepted-quiet R (delete p) (some s) t)
+  done-lawful (add r) (some s) t w = add-lawful r s w (add-taken R s r t)
+  done-lawful (delete h p) none t w = tt
+  done-lawful (delete h p) (some s) t w =
+      let q = delete-taken R s h p t in subst (LawfulMeaning) (sym (delete-records h p (q .route) s (q .there))) (delete-lawful p s w q)
   done-lawful (change r) none t w = tt
-  done-lawful (change r) (some s) t w = change-lawful r s (find (r .prefix) (s .routes)) refl w (accepted-quiet R (change r) (some s) t)
+  done-lawful (change r) (some s) t w =
+      let q = change-taken R s r t in subst (LawfulMeaning) (sym (change-records r (q .route) s (q .there))) (change-lawful r s w q)
   done-lawful (lookup d) m t w = w
   done-lawful first m t w = w
   done-lawful (after p) m t w = w

@@ -9,5 +9,6 @@ pub mod Walk
 pub mod Numbers
 pub mod Masked
 pub mod Undo
+pub mod Taken
 pub mod Lawful
 pub mod History

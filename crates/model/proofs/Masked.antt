@@ -24,7 +24,7 @@ module _ {P : Type 0} where
   abbrev pub given : Call P → Option Prefix
   given (fresh c n) = none
   given (add r) = some (r .prefix)
-  given (delete p) = some p
+  given (delete h p) = some p
   given (change r) = some (r .prefix)
   given (lookup d) = none
   given first = none
@@ -47,7 +47,7 @@ module _ {P : Type 0} (R : Rules P) where
       unsound-first : (c : Call P) → given c ≡ some p → number R c none ≡ 9
       unsound-first (fresh k n) e = absurd (nothing-given e)
       unsound-first (add r) e = refl
-      unsound-first (delete q) e = refl
+      unsound-first (delete h q) e = refl
       unsound-first (change r) e = refl
       unsound-first (lookup d) e = refl
       unsound-first first e = refl
@@ -66,7 +66,7 @@ module _ {P : Type 0} (R : Rules P) where
       then : (c : Call P) → given c ≡ some p → number R c (some s) ≡ 3
       then (fresh k n) f = absurd (nothing-given f)
       then (add r) f = rw (bad (r .prefix) f)
-      then (delete q) f = rw (bad q f)
+      then (delete h q) f = rw (bad q f)
       then (change r) f = rw (bad (r .prefix) f)
       then (lookup d) f = absurd (nothing-given f)
       then first f = absurd (nothing-given f)

@@ -8,9 +8,9 @@ use mathlib.Core.Option.{none, some}
 use native.Mathlib.Omega.{arith}
 use borrow.Author.Tests.{eqb-true, eq-eqb, not-true}
 use lib.Dec.{eqb}
-use Rattle.model.specs.Prefix.{wellFormed}
-use Rattle.model.specs.Routes.{Route, holds}
-use Rattle.model.specs.State.{Rules, State, Meaning, full, isOpen}
+use Rattle.model.specs.Prefix.{Prefix, wellFormed}
+use Rattle.model.specs.Routes.{Route, find, holds}
+use Rattle.model.specs.State.{plain, learner, Rules, State, Meaning, full, isOpen}
 use Rattle.model.specs.Call.{Call, fresh, add, delete, change, lookup, first, after, room, mask, openTrial, keep, backOut, stepBack, Line, firstDue, due, number, accepted, trialFull}
 use Rattle.model.proofs.Tests.{both}
 
@@ -65,7 +65,7 @@ module _ {P : Type 0} (R : Rules P) where
   all-refusals : (c : Call P) (m : Meaning P) → refusals (due R c m) ≡ true
   all-refusals (fresh c n) m = refl
   all-refusals (add r) m = refl
-  all-refusals (delete p) m = refl
+  all-refusals (delete h p) m = refl
   all-refusals (change r) m = refl
   all-refusals (lookup d) m = refl
   all-refusals first m = refl
@@ -80,24 +80,45 @@ module _ {P : Type 0} (R : Rules P) where
   pub accepted-quiet : (c : Call P) (m : Meaning P) → accepted R c m ≡ true → Quiet (due R c m)
   accepted-quiet c m t = quiet (due R c m) (all-refusals c m) (eqb-true _ _ t)
 
+  -- ---- "16 .. judged after 4", "15 .. judged after 6", each whatever comes after it
+
+  module _ (r : Route P) (s : State P) where
+    pub bad-hop-gives-4 : (wellFormed (R .width) (r .prefix) && R .mayHold (r .prefix)) ≡ true → R .goodHop (r .prefix) (r .payload) ≡ false → number R (add r) (some s) ≡ 4
+    bad-hop-gives-4 f b = rw (f, b)
+
+    pub bad-metric-gives-16 : (wellFormed (R .width) (r .prefix) && R .mayHold (r .prefix)) ≡ true → R .goodHop (r .prefix) (r .payload) ≡ true → R .goodMetric (r .payload) ≡ false
+        → number R (add r) (some s) ≡ 16
+    bad-metric-gives-16 f g b = rw (f, g, b)
+
+    pub changed-hop-gives-4 : wellFormed (R .width) (r .prefix) ≡ true → R .goodHop (r .prefix) (r .payload) ≡ false → number R (change r) (some s) ≡ 4
+    changed-hop-gives-4 f b = rw (f, b)
+
+    pub changed-metric-gives-16 : wellFormed (R .width) (r .prefix) ≡ true → R .goodHop (r .prefix) (r .payload) ≡ true → R .goodMetric (r .payload) ≡ false → number R (change r) (some s) ≡ 16
+    changed-metric-gives-16 f g b = rw (f, g, b)
+
+  pub fixed-gives-15 : (p : Prefix) (r : Route P) (s : State P) → wellFormed (R .width) p ≡ true → find p (s .routes) ≡ some r → R .hand (r .payload) ≡ plain
+      → number R (delete learner p) (some s) ≡ 15
+  fixed-gives-15 p r s f e h = rw (f, e, h)
+
   -- ---- "A duplicate in a full table gives 5", "65 gives 8, also when the table is full": the order of add's lines
 
-  module _ (r : Route P) (s : State P) (may : (wellFormed (R .width) (r .prefix) && R .mayHold (r .prefix)) ≡ true) (good : R .goodHop (r .prefix) (r .payload) ≡ true) where
+  module _ (r : Route P) (s : State P) (may : (wellFormed (R .width) (r .prefix) && R .mayHold (r .prefix)) ≡ true) (good : R .goodHop (r .prefix) (r .payload) ≡ true)
+      (measured : R .goodMetric (r .payload) ≡ true) where
     pub duplicate-gives-5 : holds (r .prefix) (s .routes) ≡ true → number R (add r) (some s) ≡ 5
-    duplicate-gives-5 h = rw (may, good, h)
+    duplicate-gives-5 h = rw (may, good, measured, h)
 
     pub standing-gives-8 : holds (r .prefix) (s .routes) ≡ false → trialFull R s ≡ true → number R (add r) (some s) ≡ 8
-    standing-gives-8 h f = rw (may, good, h, f)
+    standing-gives-8 h f = rw (may, good, measured, h, f)
 
     pub full-gives-7 : holds (r .prefix) (s .routes) ≡ false → trialFull R s ≡ false → full s ≡ true → number R (add r) (some s) ≡ 7
-    full-gives-7 h f e = rw (may, good, h, f, e)
+    full-gives-7 h f e = rw (may, good, measured, h, f, e)
 
   -- ---- a pool that is not sound: 9 in every call that asks
 
   abbrev pub asks : Call P → Bool
   asks (fresh c n) = false
   asks (add r) = true
-  asks (delete p) = true
+  asks (delete h p) = true
   asks (change r) = true
   asks (lookup d) = true
   asks first = true
@@ -112,7 +133,7 @@ module _ {P : Type 0} (R : Rules P) where
   pub unsound-gives-9 : (c : Call P) → asks c ≡ true → number R c none ≡ 9
   unsound-gives-9 (fresh c n) t = absurd (true≢false (sym t))
   unsound-gives-9 (add r) t = refl
-  unsound-gives-9 (delete p) t = refl
+  unsound-gives-9 (delete h p) t = refl
   unsound-gives-9 (change r) t = refl
   unsound-gives-9 (lookup d) t = refl
   unsound-gives-9 first t = refl
@@ -150,7 +171,7 @@ module _ {P : Type 0} (R : Rules P) where
       or-false : (b : Bool) → (b || false) ≡ true → b ≡ true
       or-false true t = refl
       or-false false t = t
-  seven-full (delete p) s e = absurd (true≢false (sym (line-of (delete p) (some s) e)))
+  seven-full (delete h p) s e = absurd (true≢false (sym (line-of (delete h p) (some s) e)))
   seven-full (change r) s e = absurd (true≢false (sym (line-of (change r) (some s) e)))
   seven-full (lookup d) s e = absurd (true≢false (sym (line-of (lookup d) (some s) e)))
   seven-full first s e = absurd (true≢false (sym (line-of first (some s) e)))

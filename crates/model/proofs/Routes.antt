@@ -1,11 +1,11 @@
 -- A list of routes in walk order: what it holds, what `find` finds in it, and that the same routes make the same list.
 use mathlib.Core.Path.{_≡_, refl, sym, ap, ap₂, subst, _∙_}
-use mathlib.Core.Bool.{Bool, true, false}
+use mathlib.Core.Bool.{Bool, true, false, true≢false}
 use mathlib.Core.List.{List, [], _∷_}
 use mathlib.Core.Logic.{_⊎_, inl, inr, _↔_}
-use mathlib.Core.Option.{none, some}
+use mathlib.Core.Option.{Option, none, some}
 use Rattle.model.specs.Prefix.{Prefix, Before, same}
-use Rattle.model.specs.Routes.{Route, Held, AllAfter, InOrder, find}
+use Rattle.model.specs.Routes.{Route, Held, AllAfter, InOrder, find, present, holds}
 use Rattle.model.proofs.Order.{same-true, true-same, before-irrefl, before-trans, before-not-same, behind-not-same}
 use Rattle.model.proofs.Tests.{none-not-some}
 
@@ -79,3 +79,20 @@ module _ {P : Type 0} where
   same-routes (x ∷ xs) (y ∷ ys) o q f =
       let e = heads x y xs ys (o .0) (q .0) (f x .0 (inl refl)) (f y .1 (inl refl)) in
       ap₂ _∷_ e (same-routes xs ys (o .1) (q .1) (λ r. (tails x y xs ys e (o .0) r (f r .0), tails y x ys xs (sym e) (q .0) r (f r .1))))
+
+module _ {P : Type 0} where
+  -- ---- a prefix that is there has its route
+
+  pub there : (p : Prefix) (l : List (Route P)) → holds p l ≡ true → (r : Route P) × (find p l ≡ some r)
+  there p l t = go (find p l) refl
+    where
+      go : (o : Option (Route P)) → find p l ≡ o → (r : Route P) × (find p l ≡ some r)
+      go none e = absurd (true≢false (sym t ∙ ap present e))
+      go (some r) e = (r, e)
+
+  pub absent : (p : Prefix) (l : List (Route P)) → holds p l ≡ false → find p l ≡ none
+  absent p l t = go (find p l) refl
+    where
+      go : (o : Option (Route P)) → find p l ≡ o → find p l ≡ none
+      go none e = e
+      go (some r) e = absurd (true≢false (sym (ap present e) ∙ t))

@@ -4,7 +4,7 @@ use mathlib.Core.List.{List}
 use mathlib.Core.Option.{Option, none, some}
 use Rattle.model.specs.Prefix.{Prefix}
 use Rattle.model.specs.Routes.{Route, InOrder, find, insert, remove, replace}
-use Rattle.model.specs.State.{added, deleted, changed, State, undo}
+use Rattle.model.specs.State.{Hand, added, deleted, changed, State, undo}
 use Rattle.model.specs.Call.{add, delete, change, changeTo, deleteFrom, changeAt, done}
 use Rattle.model.proofs.Edits.{remove-insert, insert-remove, replace-back}
 
@@ -14,9 +14,9 @@ module _ {P : Type 0} where
   pub add-records : (r : Route P) (s : State P) → done (add r) (some s) ≡ some (changeTo s (insert r (s .routes)) (added r))
   add-records r s = refl
 
-  pub delete-records : (p : Prefix) (r : Route P) (s : State P) → find p (s .routes) ≡ some r
-      → done (delete p) (some s) ≡ some (changeTo s (remove p (s .routes)) (deleted r))
-  delete-records p r s e = ap (λ (o : Option (Route P)). some (deleteFrom p s o)) e
+  pub delete-records : (h : Hand) (p : Prefix) (r : Route P) (s : State P) → find p (s .routes) ≡ some r
+      → done (delete h p) (some s) ≡ some (changeTo s (remove p (s .routes)) (deleted r))
+  delete-records h p r s e = ap (λ (o : Option (Route P)). some (deleteFrom p s o)) e
 
   pub change-records : (r old : Route P) (s : State P) → find (r .prefix) (s .routes) ≡ some old
       → done (change r) (some s) ≡ some (changeTo s (replace r (s .routes)) (changed (r .prefix) (old .payload) (r .payload)))

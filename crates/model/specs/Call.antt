@@ -9,13 +9,13 @@ use Rattle.bits.specs.Mask.{goodMask, maskLength}
 use Rattle.model.specs.Prefix.{Prefix, wellFormed}
 use Rattle.model.specs.Routes.{Route, find, present, holds, insert, remove, replace, firstOf, nextAfter}
 use Rattle.model.specs.Match.{best}
-use Rattle.model.specs.State.{Rules, Change, added, deleted, changed, Trial, closed, opened, State, Meaning, empty, roomLeft, full, isOpen, changes, recordIn, undo, undoAll}
+use Rattle.model.specs.State.{Hand, guards, Rules, Change, added, deleted, changed, Trial, closed, opened, State, Meaning, empty, roomLeft, full, isOpen, changes, recordIn, undo, undoAll}
 
 -- The calls that ask about a table. A fresh table is asked for with a capacity, in a buffer of so many words.
 pub data Call (P : Type 0) : Type 0 where
   fresh : (capacity words : ℕ) → Call P
   add : Route P → Call P
-  delete : Prefix → Call P
+  delete : Hand → Prefix → Call P
   change : Route P → Call P
   lookup : (destination : ℕ) → Call P
   first : Call P
@@ -58,6 +58,19 @@ module _ {P : Type 0} (R : Rules P) where
   abbrev pub trialFull : State P → Bool
   trialFull s = isOpen (s .trial) && eqb (length (changes (s .trial))) (R .standing)
 
+  -- "A learned change or delete aimed at a fixed route": the route that has the prefix, if there is one, is guarded from that hand.
+  abbrev pub guarded : Hand → Option (Route P) → Bool
+  guarded by none = false
+  guarded by (some r) = guards (R .hand (r .payload)) by
+
+  -- The lines of what a call brings for a route: "16 .. judged after 4".
+  abbrev pub ofPayload : Route P → List Line → List Line
+  ofPayload r ls = (4, not (R .goodHop (r .prefix) (r .payload))) ∷ (16, not (R .goodMetric (r .payload))) ∷ ls
+
+  -- The lines of a call that needs the prefix there: "15 .. judged after 6".
+  abbrev pub ofHeld : Hand → Prefix → State P → List Line
+  ofHeld h p s = (6, not (holds p (s .routes))) ∷ (15, guarded h (find p (s .routes))) ∷ (8, trialFull s) ∷ []
+
   -- The lines of each call, in document 01's order: "1 before 2; otherwise 9, 3, 4, 5 or 6, 8, 7; for step back 9, 11, 12. Numbers 10, 13 and 14,
   -- and 11 in keep and back out, come last in their calls."
   abbrev pub due : Call P → Meaning P → List Line
@@ -65,14 +78,12 @@ module _ {P : Type 0} (R : Rules P) where
   due (add r) m =
       (9, unsound m)
       ∷ (3, not (wellFormed (R .width) (r .prefix) && R .mayHold (r .prefix)))
-      ∷ (4, not (R .goodHop (r .prefix) (r .payload)))
-      ∷ (5, holds (r .prefix) (stateOf m .routes)) ∷ (8, trialFull (stateOf m)) ∷ (7, full (stateOf m)) ∷ []
-  due (delete p) m = (9, unsound m) ∷ (3, not (wellFormed (R .width) p)) ∷ (6, not (holds p (stateOf m .routes))) ∷ (8, trialFull (stateOf m)) ∷ []
+      ∷ ofPayload r ((5, holds (r .prefix) (stateOf m .routes)) ∷ (8, trialFull (stateOf m)) ∷ (7, full (stateOf m)) ∷ [])
+  due (delete h p) m = (9, unsound m) ∷ (3, not (wellFormed (R .width) p)) ∷ ofHeld h p (stateOf m)
   due (change r) m =
       (9, unsound m)
       ∷ (3, not (wellFormed (R .width) (r .prefix)))
-      ∷ (4, not (R .goodHop (r .prefix) (r .payload)))
-      ∷ (6, not (holds (r .prefix) (stateOf m .routes))) ∷ (8, trialFull (stateOf m)) ∷ []
+      ∷ ofPayload r (ofHeld (R .hand (r .payload)) (r .prefix) (stateOf m))
   due (lookup d) m = (9, unsound m) ∷ (13, not (present (best (R .width) d (stateOf m .routes)))) ∷ []
   due first m = (9, unsound m) ∷ (14, not (present (firstOf (stateOf m .routes)))) ∷ []
   due (after p) m = (9, unsound m) ∷ (3, not (wellFormed (R .width) p)) ∷ (14, not (present (nextAfter p (stateOf m .routes)))) ∷ []
@@ -101,7 +112,7 @@ module _ {P : Type 0} where
   abbrev pub shown : ℕ → Call P → State P → Value P
   shown W (fresh c n) s = nothing
   shown W (add r) s = nothing
-  shown W (delete p) s = nothing
+  shown W (delete h p) s = nothing
   shown W (change r) s = nothing
   shown W (lookup d) s = found (best W d (s .routes))
   shown W first s = found (firstOf (s .routes))
@@ -146,7 +157,7 @@ module _ {P : Type 0} where
   abbrev pub done : Call P → Meaning P → Meaning P
   done (fresh c n) m = some (empty c)
   done (add r) m = onState (λ s. changeTo s (insert r (s .routes)) (added r)) m
-  done (delete p) m = onState (λ s. deleteFrom p s (find p (s .routes))) m
+  done (delete h p) m = onState (λ s. deleteFrom p s (find p (s .routes))) m
   done (change r) m = onState (λ s. changeAt r s (find (r .prefix) (s .routes))) m
   done (lookup d) m = m
   done first m = m

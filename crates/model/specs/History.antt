@@ -33,7 +33,7 @@ module _ {P : Type 0} where
   abbrev pub heard : Call P → Told P → Told P
   heard (fresh c n) t = record { capacity = c; settled = []; inTrial = false; standing = [] }
   heard (add r) t = noted t (put r)
-  heard (delete p) t = noted t (drop p)
+  heard (delete h p) t = noted t (drop p)
   heard (change r) t = noted t (swap r)
   heard (lookup d) t = t
   heard first t = t

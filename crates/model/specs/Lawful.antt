@@ -6,12 +6,12 @@ use mathlib.Core.List.{List, [], _∷_}
 use lib.ListN.{length}
 use Rattle.model.specs.Prefix.{Prefix, wellFormed}
 use Rattle.model.specs.Routes.{Route, InOrder, holds}
-use Rattle.model.specs.State.{Rules, Change, added, deleted, changed, State, changes, undo}
+use Rattle.model.specs.State.{Rules, goodPayload, Change, added, deleted, changed, State, changes, undo}
 
 module _ {P : Type 0} (R : Rules P) where
   -- A route "obeys "What the table holds"": its prefix may be held, and its payload is good there.
   abbrev pub Obeys : Prefix → P → Type 0
-  Obeys p h = (wellFormed (R .width) p ≡ true) × (R .mayHold p ≡ true) × (R .goodHop p h ≡ true)
+  Obeys p h = (wellFormed (R .width) p ≡ true) × (R .mayHold p ≡ true) × (goodPayload R p h ≡ true)
 
   -- "Its routes .. obey".
   abbrev pub AllObey : List (Route P) → Type 0

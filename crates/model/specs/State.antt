@@ -1,6 +1,6 @@
 -- What a table is at a moment, and the numbers and tests that a table is made with.
 use Prim.Native.Nat.{ℕ, _-_}
-use mathlib.Core.Bool.{Bool, true, false}
+use mathlib.Core.Bool.{Bool, true, false, _&&_}
 use mathlib.Core.List.{List, [], _∷_}
 use mathlib.Core.Option.{Option}
 use lib.Dec.{eqb}
@@ -8,8 +8,20 @@ use lib.ListN.{length}
 use Rattle.model.specs.Prefix.{Prefix}
 use Rattle.model.specs.Routes.{Route, insert, remove, replace}
 
+-- Whose hand makes a change: the keeper's own, by a plain call, or a learner's.
+pub data Hand : Type 0 where
+  plain : Hand
+  learner : Hand
+
+-- What a plain hand made is guarded from a learner's; everything else may be touched.
+abbrev pub guards : (made by : Hand) → Bool
+guards plain plain = false
+guards plain learner = true
+guards learner by = false
+
 -- What is fixed for one kind of table: the width of an address, the largest capacity, the words that a capacity needs, the most changes that may
--- stand, which prefixes may be held (of those that are well formed), and which payloads are good at a prefix.
+-- stand, which prefixes may be held (of those that are well formed), which payloads have a hop that is good at a prefix, and a metric that is good, and
+-- whose hand makes such a route.
 pub record Rules (P : Type 0) : Type 0 where
   pub width : ℕ
   pub limit : ℕ
@@ -17,6 +29,12 @@ pub record Rules (P : Type 0) : Type 0 where
   pub standing : ℕ
   pub mayHold : Prefix → Bool
   pub goodHop : Prefix → P → Bool
+  pub goodMetric : P → Bool
+  pub hand : P → Hand
+
+-- A payload that a route of this prefix may hold.
+abbrev pub goodPayload : {P : Type 0} → Rules P → Prefix → P → Bool
+goodPayload R p h = R .goodHop p h && R .goodMetric h
 
 -- A recorded change, with what it takes to take it back: the route added, the route deleted, or a prefix with its payload before and after.
 pub data Change (P : Type 0) : Type 0 where

@@ -19,7 +19,7 @@ pub known : {k k' : Command} (ws zs : List ℕ) (r : Changed) → k ≡ k' → P
 known ws zs r e d = subst (λ (x : Command). Performs x ws zs r) (sym e) d
 
 -- the number of a call
-pub calls : {c : call.Call ipv4.Hop} {ws zs : List ℕ} {n m : ℕ} → n ≡ m → Promise (tree words4) c ws zs m call.nothing → Calls c ws zs (Changed.Number n)
+pub calls : {c : call.Call ipv4.Payload} {ws zs : List ℕ} {n m : ℕ} → n ≡ m → Promise (tree words4) c ws zs m call.nothing → Calls c ws zs (Changed.Number n)
 calls {m = m} e p = (m, ap Changed.Number e, p)
 
 -- the commands that change no word, by their numbers in the code
@@ -30,7 +30,7 @@ pub keeps : (ws : List ℕ) (k : Command) → OneOf asking (enum.Declared.tagOf 
 keeps ws Command.Nothing h = (refl, refl)
 keeps ws (Command.Fresh c) h = absurd (miss asking 1 tt h)
 keeps ws (Command.Add r) h = absurd (miss asking 2 tt h)
-keeps ws (Command.Delete p) h = absurd (miss asking 3 tt h)
+keeps ws (Command.Delete by p) h = absurd (miss asking 3 tt h)
 keeps ws (Command.Change r) h = absurd (miss asking 4 tt h)
 keeps ws (Command.Lookup d) h = (refl, refl)
 keeps ws Command.First h = (refl, refl)

@@ -6,7 +6,7 @@ use mathlib.Core.Logic.{_⊎_}
 use lib.ListN.{length, set}
 use Rattle.model.specs.Ipv4 as ipv4
 use Rattle.model.specs.Call as call
-use Rattle.route.specs.Means.{prefixOf, routeOf}
+use Rattle.route.specs.Means.{prefixOf, routeOf, handIs}
 use Rattle.pool.specs.Ipv4.{ipv4 as words4}
 use Rattle.promise.specs.Promise.{Promise, FreshPromise}
 use Rattle.promise.specs.Trees.{tree}
@@ -14,7 +14,7 @@ use Rattle.command.specs.declared.asked.Command.{Command}
 use Rattle.perform.specs.declared.Changed.{Changed}
 
 -- The number is the one that the call's promise gives.
-abbrev pub Calls : call.Call ipv4.Hop → List ℕ → List ℕ → Changed → Type 0
+abbrev pub Calls : call.Call ipv4.Payload → List ℕ → List ℕ → Changed → Type 0
 Calls c ws zs r = (n : ℕ) × (r ≡ Changed.Number n) × Promise (tree words4) c ws zs n call.nothing
 
 -- The same of a fresh table.
@@ -33,7 +33,7 @@ Keeps ws zs r = (r ≡ Changed.Nothing) × (zs ≡ ws)
 abbrev pub Performs : Command → List ℕ → List ℕ → Changed → Type 0
 Performs (Command.Fresh c) = Begins c
 Performs (Command.Add r) = Calls (call.add (routeOf r))
-Performs (Command.Delete p) = Calls (call.delete (prefixOf p))
+Performs (Command.Delete h p) = Calls (call.delete (handIs h) (prefixOf p))
 Performs (Command.Change r) = Calls (call.change (routeOf r))
 Performs Command.Open = Calls call.openTrial
 Performs Command.Keep = Calls call.keep

@@ -27,7 +27,7 @@ pub fn change(words: &mut [u32], command: Command) -> Changed
     match command {
         Command::Fresh(capacity) => Changed::Number(table::fresh(words, capacity).number()),
         Command::Add(route) => Changed::Number(table::add(words, route).number()),
-        Command::Delete(prefix) => Changed::Number(table::delete(words, prefix).number()),
+        Command::Delete(by, prefix) => Changed::Number(table::delete(words, by, prefix).number()),
         Command::Change(route) => Changed::Number(table::change_hop(words, route).number()),
         Command::Open => Changed::Number(table::open_trial(words).number()),
         Command::Keep => Changed::Number(table::keep_trial(words).number()),

@@ -10,7 +10,7 @@ use borrow.Author.Tests.{le-ltb}
 use lib.ListN.{length}
 use Rattle.model.specs.State.{State, Meaning}
 use Rattle.model.specs.Call.{fresh, number}
-use Rattle.model.specs.Ipv4.{Hop}
+use Rattle.model.specs.Ipv4.{Payload}
 use Rattle.bits.proofs.Cases.{lt-or-le, eq-or-ne}
 use Rattle.patricia.specs.Tree.{Root}
 use Rattle.patricia.specs.Good.{RootGood}
@@ -29,10 +29,10 @@ pub at-most-64-KiB : (c : ℕ) → c ≤ ipv4 .rules .limit → 4 * size ipv4 c 
 at-most-64-KiB c h = omega (arith, h)
 
 -- "Capacity now runs from 1 to 512 and 513 gives 1."
-pub largest-taken : (n : ℕ) (m : Meaning Hop) → size ipv4 512 ≤ n → number (ipv4 .rules) (fresh 512 n) m ≡ 0
+pub largest-taken : (n : ℕ) (m : Meaning Payload) → size ipv4 512 ≤ n → number (ipv4 .rules) (fresh 512 n) m ≡ 0
 largest-taken n m h = rw (le-ltb n (size ipv4 512) h)
 
-pub above-refused : (n : ℕ) (m : Meaning Hop) → number (ipv4 .rules) (fresh 513 n) m ≡ 1
+pub above-refused : (n : ℕ) (m : Meaning Payload) → number (ipv4 .rules) (fresh 513 n) m ≡ 1
 above-refused n m = refl
 
 module _ {P : Type 0} (L : Layout P) (ws : List ℕ) (s : State P) (m : Means L ws s) where

@@ -4,9 +4,9 @@ use mathlib.Core.Path.{_≡_, refl, ap, _∙_}
 use mathlib.Core.List.{List}
 use native.Mathlib.Omega.{arith}
 use borrow.Author.Tests.{eq-eqb, ne-eqb}
-use Rattle.model.specs.Ipv4.{direct, via, reject}
+use Rattle.model.specs.Ipv4.{direct, via, reject, fixed, learned}
 use Rattle.pool.specs.Layout.{word}
-use Rattle.pool.specs.Ipv4.{hopFrom, hopAt}
+use Rattle.pool.specs.Ipv4.{hopFrom, hopAt, originFrom, originAt}
 use Rattle.pool.specs.Link.{linkFrom, toRoute, toInner}
 use Rattle.pool.specs.declared.link.Link.the-variants.{Nothing, Route, Inner}
 
@@ -26,6 +26,19 @@ hop-other (suc (suc (suc k))) p g a b = refl
 
 pub hop-reject : (ws : List ℕ) (at : ℕ) → (word ws at ≡ 1 → ⊥) → (word ws at ≡ 2 → ⊥) → reject ≡ hopAt ws at
 hop-reject ws at a b = hop-other (word ws at) (word ws (at + 1)) (word ws (at + 2)) a b
+
+-- ---- origins
+
+pub origin-learned : (ws : List ℕ) (at : ℕ) → word ws at ≡ 1 → learned (word ws (at + 1)) ≡ originAt ws at
+origin-learned ws at e = rw e
+
+origin-other : (o m : ℕ) → (o ≡ 1 → ⊥) → fixed ≡ originFrom o m
+origin-other zero m a = refl
+origin-other (suc zero) m a = absurd (a refl)
+origin-other (suc (suc k)) m a = refl
+
+pub origin-fixed : (ws : List ℕ) (at : ℕ) → (word ws at ≡ 1 → ⊥) → fixed ≡ originAt ws at
+origin-fixed ws at a = origin-other (word ws at) (word ws (at + 1)) a
 
 -- ---- links
 

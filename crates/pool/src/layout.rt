@@ -24,17 +24,20 @@ pub const AT_TRIAL: usize = 3;
 
 pub const AT_STANDING: usize = 4;
 
+// How far behind the beginning of a payload its origin stands.
+pub const ORIGIN_OFFSET: usize = 3;
+
 // How far behind the beginning of a route place its prefix and its next link stand.
-pub const PREFIX_OFFSET: usize = 3;
+pub const PREFIX_OFFSET: usize = 5;
 
-pub const NEXT_OFFSET: usize = 5;
+pub const NEXT_OFFSET: usize = 7;
 
-// How far behind the beginning of a change its prefix, the hop before and the hop after stand.
+// How far behind the beginning of a change its prefix, the payload before and the payload after stand.
 pub const CHANGED_OFFSET: usize = 1;
 
 pub const OLD_OFFSET: usize = 3;
 
-pub const NEW_OFFSET: usize = 6;
+pub const NEW_OFFSET: usize = 8;
 
 // The words that a capacity needs.
 pub fn size_of(capacity: usize) -> usize

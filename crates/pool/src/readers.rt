@@ -1,14 +1,20 @@
 ghost use mathlib.Core.Path.{_≡_};
+ghost use mathlib.Core.Bool.{true};
+ghost use mathlib.Core.Logic.{_↔_};
 ghost use Prim.Native.Nat.{_+_, _≤_, _<_};
 ghost use lib.ListN.{length};
-ghost use Rattle.route.specs.Means.{prefixOf, hopOf, routeOf};
+ghost use Rattle.route.specs.Means.{prefixOf, hopOf, originOf, payloadOf, routeOf};
 ghost use Rattle.pool.specs.Layout as layout;
-ghost use Rattle.pool.specs.Ipv4.{ipv4, hopAt};
+ghost use Rattle.pool.specs.Ipv4.{ipv4, hopAt, originAt};
 ghost use Rattle.pool.specs.Fit.{routeAt};
+ghost use Rattle.pool.specs.Means.{PayloadThere};
 use super::layout;
 use super::link::Place;
 use route::Hop;
 use route::Length;
+use route::Metric;
+use route::Origin;
+use route::Payload;
 use route::Port;
 use route::Prefix;
 use route::Route;
@@ -21,7 +27,7 @@ pub fn wide(x: u32) -> usize
 }
 
 // The hop of three words. What a kind does not use is not looked at, and a kind that is none is read as reject.
-pub fn hop_at(pool: &[u32], at: usize) -> Hop
+fn hop_at(pool: &[u32], at: usize) -> Hop
     requires { ⌜ at + 2 < length (now pool) ⌝ }
     ensures { λ r. ⌜ hopOf r ≡ hopAt (now (pool .entry)) at ⌝ }
 {
@@ -33,6 +39,43 @@ pub fn hop_at(pool: &[u32], at: usize) -> Hop
         return Hop::Via(Port(pool[at + 1]), pool[at + 2]);
     }
     Hop::Reject
+}
+
+// The origin of two words. A fixed one does not look at the metric, and a word that is no origin's is read as fixed.
+fn origin_at(pool: &[u32], at: usize) -> Origin
+    requires { ⌜ at + 1 < length (now pool) ⌝ }
+    ensures { λ r. ⌜ originOf r ≡ originAt (now (pool .entry)) at ⌝ }
+{
+    if pool[at] == 1 {
+        return Origin::Learned(Metric(pool[at + 1]));
+    }
+    Origin::Fixed
+}
+
+// The payload whose words begin here.
+pub fn payload_at(pool: &[u32], at: usize) -> Payload
+    requires { ⌜ at + 4 < length (now pool) ⌝ }
+    ensures { λ r. ⌜ payloadOf r ≡ ipv4 .payloadAt (now (pool .entry)) at ⌝ }
+{
+    Payload {
+        hop: hop_at(pool, at),
+        origin: origin_at(pool, at + layout::ORIGIN_OFFSET),
+    }
+}
+
+// Whether the words here are a payload's.
+pub fn payload_there(pool: &[u32], at: usize) -> bool
+    requires { ⌜ at + 4 < length (now pool) ⌝ }
+    ensures { λ r. ⌜ (r ≡ true) ↔ PayloadThere ipv4 (now (pool .entry)) at ⌝ }
+{
+    let kind = pool[at];
+    if kind == 0 {
+        return false;
+    }
+    if 3 < kind {
+        return false;
+    }
+    pool[at + layout::ORIGIN_OFFSET] <= 1
 }
 
 // The prefix of two words.
@@ -55,7 +98,7 @@ pub fn route_at(pool: &[u32], place: Place) -> Route
     let at = layout::seat(place);
     Route {
         prefix: prefix_at(pool, at + layout::PREFIX_OFFSET),
-        hop: hop_at(pool, at),
+        payload: payload_at(pool, at),
     }
 }
 

@@ -10,10 +10,10 @@ use lib.Dec.{eqb}
 use lib.ListN.{length}
 use Rattle.model.specs.Prefix.{Prefix}
 use Rattle.model.specs.Routes.{Route}
-use Rattle.model.specs.State.{Change, Trial, closed, opened, State, isOpen, undoAll, changes}
+use Rattle.model.specs.State.{Hand, Change, Trial, closed, opened, State, isOpen, undoAll, changes}
 use Rattle.model.specs.Call.{Call, add, delete, backOut, stepBack, Value, due}
 use Rattle.model.proofs.Edits.{length-insert, length-remove}
-use Rattle.model.proofs.Lawful.{there}
+use Rattle.model.proofs.Taken.{delete-taken}
 use Rattle.model.proofs.Numbers.{Quiet, accepted-quiet}
 use Rattle.promise.specs.Table.{Table}
 use Rattle.promise.specs.Promise.{Promise}
@@ -28,10 +28,10 @@ module _ {P : Type 0} (T : Table P) (ws : List ℕ) (s : State P) (h : T .Means 
   idle-add-caught r p = omega (arith, ap length (sound-add T ws s h ws v s h r p .0), length-insert r (s .routes))
 
   -- "or delete that does nothing"
-  pub idle-delete-caught : (q : Prefix) → Promise T (delete q) ws ws 0 v → ⊥
-  idle-delete-caught q p =
-      let f = there q (s .routes) (not-false _ (quiet (delete q) ws p .1 .1 .0)) in
-      omega (arith, ap length (sound-delete T ws s h ws v s h q p .0), length-remove q (f .0) (s .routes) (f .1))
+  pub idle-delete-caught : (b : Hand) (q : Prefix) → Promise T (delete b q) ws ws 0 v → ⊥
+  idle-delete-caught b q p =
+      let f = delete-taken (T .rules) s b q (eq-eqb _ 0 (sym (p .numberIs (some s) h))) in
+      omega (arith, ap length (sound-delete T ws s h ws v s h b q p .0), length-remove q (f .route) (s .routes) (f .there))
 
   -- "or a step back that does nothing"
   pub idle-step-caught : Promise T stepBack ws ws 0 v → ⊥

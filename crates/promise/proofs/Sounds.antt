@@ -11,7 +11,7 @@ use lib.ListN.{length}
 use Rattle.model.specs.Prefix.{Prefix, wellFormed}
 use Rattle.model.specs.Routes.{Route, InOrder, insert, remove, replace, firstOf, nextAfter}
 use Rattle.model.specs.Match.{best}
-use Rattle.model.specs.State.{Change, Trial, closed, opened, State, undo, undoAll, changes}
+use Rattle.model.specs.State.{Hand, Change, Trial, closed, opened, State, undo, undoAll, changes}
 use Rattle.model.specs.Call.{Call, fresh, add, delete, change, lookup, first, after, room, mask, openTrial, keep, backOut, stepBack, Value, route, count, number, accepted, value, withTrial, steppedBack, done, next}
 use Rattle.model.specs.Lawful.{AllObey}
 use Rattle.model.specs.History.{Deed, put, drop, swap, act}
@@ -91,7 +91,7 @@ module _ {P : Type 0} (T : Table P) (ws : List ℕ) (s : State P) (h : T .Means 
   done-some : (c : Call P) → (t : State P) × (done c (some s) ≡ some t)
   done-some (fresh c n) = (_, refl)
   done-some (add r) = (_, refl)
-  done-some (delete p) = (_, refl)
+  done-some (delete b p) = (_, refl)
   done-some (change r) = (_, refl)
   done-some (lookup d) = (_, refl)
   done-some first = (_, refl)
@@ -134,8 +134,8 @@ module _ {P : Type 0} (T : Table P) (ws : List ℕ) (s : State P) (h : T .Means 
     sound-add r p = one-change (add r) (put r) (changed-add (T .rules) r s (T .lawful ws s h) (accepted-by (add r) p)) p
 
     -- a delete one route less (`remove-held`),
-    pub sound-delete : (q : Prefix) → Promise T (delete q) ws zs 0 v → (t .routes ≡ remove q (s .routes)) × (t .capacity ≡ s .capacity)
-    sound-delete q p = one-change (delete q) (drop q) (changed-delete (T .rules) q s (T .lawful ws s h) (accepted-by (delete q) p)) p
+    pub sound-delete : (b : Hand) (q : Prefix) → Promise T (delete b q) ws zs 0 v → (t .routes ≡ remove q (s .routes)) × (t .capacity ≡ s .capacity)
+    sound-delete b q p = one-change (delete b q) (drop q) (changed-delete (T .rules) b q s (T .lawful ws s h) (accepted-by (delete b q) p)) p
 
     -- and a change of the hop one route for another (`replace-held`).
     pub sound-change : (r : Route P) → Promise T (change r) ws zs 0 v → (t .routes ≡ replace r (s .routes)) × (t .capacity ≡ s .capacity)

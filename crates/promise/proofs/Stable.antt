@@ -11,7 +11,7 @@ use Rattle.model.specs.Prefix.{Prefix}
 use Rattle.model.specs.Routes.{Route}
 use Rattle.model.specs.State.{Change, added, deleted, changed, Trial, closed, opened, State, Meaning}
 use Rattle.model.specs.Call.{Value, nothing, route, count}
-use Rattle.model.specs.Ipv4.{Hop, direct, via, reject}
+use Rattle.model.specs.Ipv4.{Hop, direct, via, reject, Origin, fixed, learned, Payload}
 
 -- they can't differ
 abbrev pub Alike : {A : Type 0} → A → A → Type 0
@@ -35,7 +35,7 @@ number-stable a b f = go (eqb a b) refl
 never : {A : Type 0} {x y : A} → (x ≡ y → _≡_ {A = ℕ} 0 1) → Alike x y → ⊥
 never f k = k (λ e. let z = f e in omega (arith, z))
 
-pub hop-stable : Stable Hop
+hop-stable : Stable Hop
 hop-stable (direct p) (direct q) k = ap direct (number-stable p q (follows (λ e. cc) k))
 hop-stable (direct p) (via q h) k = absurd (never (λ e. cc) k)
 hop-stable (direct p) reject k = absurd (never (λ e. cc) k)
@@ -45,6 +45,18 @@ hop-stable (via p g) reject k = absurd (never (λ e. cc) k)
 hop-stable reject (direct q) k = absurd (never (λ e. cc) k)
 hop-stable reject (via q h) k = absurd (never (λ e. cc) k)
 hop-stable reject reject k = refl
+
+origin-stable : Stable Origin
+origin-stable fixed fixed k = refl
+origin-stable fixed (learned n) k = absurd (never (λ e. cc) k)
+origin-stable (learned m) fixed k = absurd (never (λ e. cc) k)
+origin-stable (learned m) (learned n) k = ap learned (number-stable m n (follows (λ e. cc) k))
+
+pub payload-stable : Stable Payload
+payload-stable x y k =
+    let a = hop-stable (x .hop) (y .hop) (follows (ap (λ (h : Payload). h .hop)) k) in
+    let b = origin-stable (x .origin) (y .origin) (follows (ap (λ (h : Payload). h .origin)) k) in
+    λ i. record { hop = a i; origin = b i }
 
 prefix-stable : Stable Prefix
 prefix-stable p q k =

@@ -31,7 +31,7 @@ fn walk(words: &Words) {
 // Document 01's listing, or the number of the refusal, which is answered too. A sound pool has its capacity and its count of
 // routes in its first two words.
 pub fn list(words: &Words) -> u32
-    ensures { λ r. ⌜ ((m : Meaning ipv4.Hop) → Meant (tree words4) (now (words .entry)) m → r ≡ number (words4 .rules) call.room m) ⌝ }
+    ensures { λ r. ⌜ ((m : Meaning ipv4.Payload) → Meant (tree words4) (now (words .entry)) m → r ≡ number (words4 .rules) call.room m) ⌝ }
 {
     let answer = table::room_left(words);
     let answered = answer.number();

@@ -1,5 +1,6 @@
 // Numbers, addresses and routes as text on standard output.
 use route::Hop;
+use route::Origin;
 use route::Prefix;
 use route::Route;
 
@@ -53,9 +54,22 @@ fn hop(h: Hop) {
     }
 }
 
+fn origin(o: Origin) {
+    match o {
+        Origin::Fixed => text(b" fixed 0"),
+        Origin::Learned(metric) => {
+            text(b" learned ");
+            number(metric.0);
+        }
+    }
+}
+
 pub(crate) fn route_line(r: Route) {
-    let end = r.hop;
+    let payload = r.payload;
+    let end = payload.hop;
+    let from = payload.origin;
     prefix(r.prefix);
     hop(end);
+    origin(from);
     byte(b'\n');
 }

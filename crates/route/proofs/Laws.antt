@@ -1,14 +1,56 @@
 -- What each test of the types' functions comes to, over plain values.
 use Prim.Native.Nat.{ℕ, _≤_, _<_, _-_, _^_}
 use mathlib.Core.Path.{_≡_, sym}
-use mathlib.Core.Bool.{Bool, false, not, or-false}
+use mathlib.Core.Bool.{Bool, true, false, not, _&&_, or-false}
 use native.Mathlib.Nat.{sub-eq-zero-of-le, le-of-lt, div-one}
 use native.Mathlib.Omega.{arith}
 use borrow.Author.Tests.{le-leb, lt-leb, lt-ltb, le-ltb, eq-eqb, ne-eqb}
-use lib.Dec.{ltb, eqb}
+use lib.Dec.{ltb, leb, eqb}
 use Rattle.bits.specs.Address.{first, clear}
 use Rattle.model.specs.Prefix.{Prefix, wellFormed, matches, before, same}
-use Rattle.model.specs.Ipv4.{via, goodHop}
+use Rattle.model.specs.Ipv4.{via, goodHop, learned, goodMetric}
+use Rattle.route.specs.Answers.{refusalNumber}
+use Rattle.route.specs.declared.answer.Refusal.{Refusal}
+use Rattle.route.specs.declared.answer.Refusal.the-variants as why
+
+-- ---- refusals
+
+-- no refusal has the number 0
+pub never-zero : (x : Refusal) → refusalNumber x ≡ 0 → ⊥
+never-zero why.BadCapacity z = omega (arith, z)
+never-zero why.ShortBuffer z = omega (arith, z)
+never-zero why.BadPrefix z = omega (arith, z)
+never-zero why.BadHop z = omega (arith, z)
+never-zero why.AlreadyThere z = omega (arith, z)
+never-zero why.NotThere z = omega (arith, z)
+never-zero why.TableFull z = omega (arith, z)
+never-zero why.TrialFull z = omega (arith, z)
+never-zero why.NotSound z = omega (arith, z)
+never-zero why.TrialIsOpen z = omega (arith, z)
+never-zero why.NoTrial z = omega (arith, z)
+never-zero why.NothingStanding z = omega (arith, z)
+never-zero why.NoMatch z = omega (arith, z)
+never-zero why.NoFurther z = omega (arith, z)
+never-zero why.RouteIsFixed z = omega (arith, z)
+never-zero why.BadMetric z = omega (arith, z)
+
+-- ---- two tests in a row
+
+pub and-good : {a b r : Bool} → a ≡ true → r ≡ b → r ≡ (a && b)
+and-good e f = rw (e, f)
+
+pub and-bad : {a : Bool} (b : Bool) → a ≡ false → false ≡ (a && b)
+and-bad b e = rw e
+
+-- ---- origins
+
+pub metric-zero : (m : ℕ) → m ≡ 0 → false ≡ goodMetric (learned m)
+unfolding goodMetric
+metric-zero m e = rw e
+
+pub metric-some : (m : ℕ) → (m ≡ 0 → ⊥) → leb m 15 ≡ goodMetric (learned m)
+unfolding goodMetric
+metric-some m n = rw (ne-eqb m 0 n)
 
 -- ---- hops
 

@@ -1,10 +1,10 @@
 -- Document 01's number and value for each answer.
 use Prim.Native.Nat.{ℕ}
-use Rattle.model.specs.Ipv4.{Hop as ModelHop}
+use Rattle.model.specs.Ipv4.{Payload as ModelPayload}
 use Rattle.model.specs.Call.{Value, nothing, route, count}
 use Rattle.route.specs.Means.{routeOf}
 use Rattle.route.specs.declared.answer.Refusal.{Refusal}
-use Rattle.route.specs.declared.answer.Refusal.the-variants.{BadCapacity, ShortBuffer, BadPrefix, BadHop, AlreadyThere, NotThere, TableFull, TrialFull, NotSound, TrialIsOpen, NoTrial, NothingStanding, NoMatch, NoFurther}
+use Rattle.route.specs.declared.answer.Refusal.the-variants.{BadCapacity, ShortBuffer, BadPrefix, BadHop, AlreadyThere, NotThere, TableFull, TrialFull, NotSound, TrialIsOpen, NoTrial, NothingStanding, NoMatch, NoFurther, RouteIsFixed, BadMetric}
 use Rattle.route.specs.declared.answer.Found as found
 use Rattle.route.specs.declared.answer.Room as room
 use Rattle.route.specs.declared.answer.Measured as measured
@@ -26,6 +26,8 @@ refusalNumber NoTrial = 11
 refusalNumber NothingStanding = 12
 refusalNumber NoMatch = 13
 refusalNumber NoFurther = 14
+refusalNumber RouteIsFixed = 15
+refusalNumber BadMetric = 16
 
 -- What each answer says: its number, and its value in the model's words. "A refusal has no value."
 abbrev pub foundNumber : found.Found → ℕ
@@ -33,7 +35,7 @@ foundNumber (found.Found.Route r) = 0
 foundNumber (found.Found.Refused x) = refusalNumber x
 
 -- The value of a lookup or a step of the walk.
-abbrev pub foundValue : found.Found → Value ModelHop
+abbrev pub foundValue : found.Found → Value ModelPayload
 foundValue (found.Found.Route r) = route (routeOf r)
 foundValue (found.Found.Refused x) = nothing
 
@@ -43,7 +45,7 @@ roomNumber (room.Room.Left n) = 0
 roomNumber (room.Room.Refused x) = refusalNumber x
 
 -- Its value.
-abbrev pub roomValue : room.Room → Value ModelHop
+abbrev pub roomValue : room.Room → Value ModelPayload
 roomValue (room.Room.Left n) = count n
 roomValue (room.Room.Refused x) = nothing
 
@@ -53,7 +55,7 @@ measuredNumber (measured.Measured.Length n) = 0
 measuredNumber (measured.Measured.Refused x) = refusalNumber x
 
 -- Its value.
-abbrev pub measuredValue : measured.Measured → Value ModelHop
+abbrev pub measuredValue : measured.Measured → Value ModelPayload
 measuredValue (measured.Measured.Length n) = count (n .0)
 measuredValue (measured.Measured.Refused x) = nothing
 

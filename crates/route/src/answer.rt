@@ -20,10 +20,12 @@ pub enum Refusal {
     NothingStanding,
     NoMatch,
     NoFurther,
+    RouteIsFixed,
+    BadMetric,
 }
 
 impl Refusal {
-    // The number of document 01.
+    // The number of document 01 or 02.
     pub fn number(self) -> u32
         ensures { λ r. ⌜ r ≡ refusalNumber self ⌝ }
     {
@@ -42,6 +44,8 @@ impl Refusal {
             Refusal::NothingStanding => 12,
             Refusal::NoMatch => 13,
             Refusal::NoFurther => 14,
+            Refusal::RouteIsFixed => 15,
+            Refusal::BadMetric => 16,
         }
     }
 }

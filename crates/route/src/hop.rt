@@ -1,6 +1,8 @@
 ghost use mathlib.Core.Path.{_≡_};
-ghost use Rattle.model.specs.Ipv4.{goodHop};
-ghost use Rattle.route.specs.Means.{hopOf};
+ghost use mathlib.Core.Bool.{_&&_};
+ghost use Rattle.model.specs.Ipv4.{goodHop, goodMetric};
+ghost use Rattle.route.specs.Means.{hopOf, payloadOf};
+use super::origin::Origin;
 use super::prefix::Prefix;
 
 // A port number.
@@ -35,8 +37,29 @@ impl Hop {
     }
 }
 
-// Every route holds its hop.
+// What a route holds besides its prefix.
+pub struct Payload {
+    pub hop: Hop,
+    pub origin: Origin,
+}
+
+impl Payload {
+    // Whether a route may hold it.
+    pub fn is_good(self) -> bool
+        ensures { λ r. ⌜ r ≡ (goodHop (payloadOf self .hop) && goodMetric (payloadOf self .origin)) ⌝ }
+    {
+        let hop = self.hop;
+        let origin = self.origin;
+        if hop.is_good() {
+            origin.is_good()
+        } else {
+            false
+        }
+    }
+}
+
+// Every route holds its hop, and where it came from.
 pub struct Route {
     pub prefix: Prefix,
-    pub hop: Hop,
+    pub payload: Payload,
 }

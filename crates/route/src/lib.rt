@@ -2,6 +2,7 @@
 // mixed; the place stands with the pool.
 mod answer;
 mod hop;
+mod origin;
 mod prefix;
 
 pub use answer::Done;
@@ -11,7 +12,11 @@ pub use answer::Refusal;
 pub use answer::Room;
 pub use answer::measure;
 pub use hop::Hop;
+pub use hop::Payload;
 pub use hop::Port;
 pub use hop::Route;
+pub use origin::Hand;
+pub use origin::Metric;
+pub use origin::Origin;
 pub use prefix::Length;
 pub use prefix::Prefix;

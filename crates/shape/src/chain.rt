@@ -30,23 +30,19 @@ fn route_is_good(pool: &[u32], capacity: usize, place: Place) -> bool
     if capacity <= i {
         return false;
     }
-    let kind = pool::kind_at(pool, place);
-    if kind == 0 {
-        return false;
-    }
-    if 3 < kind {
+    if !pool::payload_there(pool, pool::seat(place)) {
         return false;
     }
     let route = pool::route_at(pool, place);
     let prefix = route.prefix;
-    let hop = route.hop;
+    let payload = route.payload;
     if !prefix.well_formed() {
         return false;
     }
     if !prefix.may_be_held() {
         return false;
     }
-    hop.is_good()
+    payload.is_good()
 }
 
 // Whether a link leads to a good route of this address that is shorter than the bound.

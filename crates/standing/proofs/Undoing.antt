@@ -11,7 +11,7 @@ use Rattle.model.specs.State.{Change, added, deleted, changed, undo}
 use Rattle.model.specs.Lawful.{CanUndo}
 use Rattle.model.proofs.Order.{same-true}
 use Rattle.model.proofs.Edits.{insert-found, length-insert, remove-absent, length-remove, replace-found, length-replace}
-use Rattle.model.proofs.Lawful.{there, absent}
+use Rattle.model.proofs.Routes.{there, absent}
 
 -- another prefix than the one that is the same as q
 other-head : (p q x : Prefix) → same p q ≡ false → same q x ≡ true → same p x ≡ false

@@ -7,7 +7,7 @@ use mathlib.Core.Logic.{_↔_}
 use lib.ListN.{length}
 use Rattle.model.specs.Prefix.{Prefix}
 use Rattle.model.specs.Routes.{Route, holds}
-use Rattle.model.specs.State.{Change, added, deleted, changed, undo}
+use Rattle.model.specs.State.{goodPayload, Change, added, deleted, changed, undo}
 use Rattle.model.specs.Lawful.{ChangeObeys, CanUndo, Undoable}
 use Rattle.patricia.specs.Tree.{Root, rootRoutes}
 use Rattle.patricia.specs.Obeys.{RootObeys}
@@ -36,7 +36,7 @@ module _ {P : Type 0} (L : Layout P) where
   -- A payload of a change of prefix p.
   pub record PayloadFine (ws : List ℕ) (p : Prefix) (at : ℕ) : Type 0 where
     pub kind : PayloadThere L ws at
-    pub good : L .rules .goodHop p (L .payloadAt ws at) ≡ true
+    pub good : goodPayload (L .rules) p (L .payloadAt ws at) ≡ true
 
   -- Slot k records a change that obeys "What the table holds".
   pub record ChangeFine (c : ℕ) (ws : List ℕ) (k : ℕ) : Type 0 where

@@ -14,22 +14,18 @@ pub enum Taken {
     Held(usize),
 }
 
-// Whether three words are a hop that the table may hold.
-fn hop_is_good(pool: &[u32], at: usize) -> bool
-    requires { ⌜ at + 2 < length (now pool) ⌝ }
+// Whether the words here are a payload that the table may hold.
+fn payload_is_good(pool: &[u32], at: usize) -> bool
+    requires { ⌜ at + 4 < length (now pool) ⌝ }
     ensures { λ r. ⌜ ((p : Prefix) → (r ≡ true) ↔ PayloadFine ipv4 (now (pool .entry)) p at) ⌝ }
 {
-    let kind = pool[at];
-    if kind == 0 {
+    if !pool::payload_there(pool, at) {
         return false;
     }
-    if 3 < kind {
-        return false;
-    }
-    pool::hop_at(pool, at).is_good()
+    pool::payload_at(pool, at).is_good()
 }
 
-// Whether a slot records a change whose prefix and hops the table may hold. A hop that its action does not use is not looked at.
+// Whether a slot records a change whose prefix and payloads the table may hold. A payload that its action does not use is not looked at.
 fn change_is_good(pool: &[u32], capacity: usize, change: usize) -> bool
     requires { ⌜ Fit ipv4 capacity (now pool) ⌝ }
     requires { ⌜ change < 64 ⌝ }
@@ -45,18 +41,18 @@ fn change_is_good(pool: &[u32], capacity: usize, change: usize) -> bool
         return false;
     }
     if action == 1 {
-        return hop_is_good(pool, at + pool::NEW_OFFSET);
+        return payload_is_good(pool, at + pool::NEW_OFFSET);
     }
     if action == 2 {
-        return hop_is_good(pool, at + pool::OLD_OFFSET);
+        return payload_is_good(pool, at + pool::OLD_OFFSET);
     }
     if action != 3 {
         return false;
     }
-    if !hop_is_good(pool, at + pool::OLD_OFFSET) {
+    if !payload_is_good(pool, at + pool::OLD_OFFSET) {
         return false;
     }
-    hop_is_good(pool, at + pool::NEW_OFFSET)
+    payload_is_good(pool, at + pool::NEW_OFFSET)
 }
 
 // Whether all standing changes are good.

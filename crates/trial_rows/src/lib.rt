@@ -3,12 +3,12 @@ ghost use mathlib.Core.Path.{_≡_};
 ghost use Prim.Native.Nat.{_-_, _≤_, _<_};
 ghost use mathlib.Core.List.{[], _∷_};
 ghost use lib.ListN.{length};
-ghost use Rattle.route.specs.Means.{prefixOf, hopOf};
+ghost use Rattle.route.specs.Means.{prefixOf, payloadOf};
 ghost use Rattle.pool.specs.Layout as layout;
 ghost use Rattle.pool.specs.Write.{writes};
 ghost use Rattle.pool.specs.Ipv4.{ipv4};
 ghost use Rattle.rows.specs.Writes.{headWrites, recordWrites};
-use route::Hop;
+use route::Payload;
 use route::Prefix;
 
 // Whether a trial is open, and how many changes stand.
@@ -35,17 +35,17 @@ pub fn record_change(
     capacity: usize,
     action: u32,
     prefix: Prefix,
-    old: Hop,
-    new: Hop,
+    old: Payload,
+    new: Payload,
 )
     requires { ⌜ (capacity ≤ 65535) × (layout.standingIn (now pool) < 64) × (layout.size ipv4 capacity ≤ length (now pool)) ⌝ }
-    ensures { λ _. ⌜ now (pool .exit) ≡ writes (recordWrites ipv4 capacity (layout.standingIn (now (pool .entry))) action (prefixOf prefix) (hopOf old) (hopOf new)) (now (pool .entry)) ⌝ }
+    ensures { λ _. ⌜ now (pool .exit) ≡ writes (recordWrites ipv4 capacity (layout.standingIn (now (pool .entry))) action (prefixOf prefix) (payloadOf old) (payloadOf new)) (now (pool .entry)) ⌝ }
 {
     let standing = pool[pool::AT_STANDING];
     let at = pool::slot(capacity, pool::wide(standing));
     pool[at] = action;
     pool::write_prefix(pool, at + pool::CHANGED_OFFSET, prefix);
-    pool::write_hop(pool, at + pool::OLD_OFFSET, old);
-    pool::write_hop(pool, at + pool::NEW_OFFSET, new);
+    pool::write_payload(pool, at + pool::OLD_OFFSET, old);
+    pool::write_payload(pool, at + pool::NEW_OFFSET, new);
     pool[pool::AT_STANDING] = standing + 1;
 }

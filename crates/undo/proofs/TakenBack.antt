@@ -14,7 +14,7 @@ use Rattle.model.specs.Call.{backOut, stepBack, due, withTrial, steppedBack, ne
 use Rattle.model.specs.Lawful.{ChangeObeys, AllChangesObey, CanUndo, Undoable}
 use Rattle.model.proofs.Numbers.{Quiet}
 use Rattle.model.proofs.Edits.{length-insert}
-use Rattle.model.proofs.Lawful.{there, absent}
+use Rattle.model.proofs.Routes.{there, absent}
 use Rattle.pool.specs.Layout.{word, Layout, standingIn, prefixAt, changedAt, oldAt}
 use Rattle.pool.specs.Means.{Records, Recorded, TrialThere, Means}
 use Rattle.pool.proofs.Local.{recorded-length}

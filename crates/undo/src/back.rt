@@ -1,4 +1,4 @@
-ghost use Rattle.model.specs.Ipv4.{Hop};
+ghost use Rattle.model.specs.Ipv4.{Payload};
 ghost use Rattle.model.specs.State.{State};
 ghost use Rattle.model.specs.Call as call;
 ghost use Rattle.pool.specs.Ipv4.{ipv4};
@@ -11,7 +11,7 @@ use route::Route;
 fn take_back(pool: &mut [u32], capacity: usize)
     requires { ⌜ Fit ipv4 capacity (now pool) ⌝ }
     requires { ⌜ Accepted ipv4 capacity call.stepBack (now pool) ⌝ }
-    ensures { λ _. ⌜ ((s : State Hop) → Accepts ipv4 capacity call.stepBack (now (pool .entry)) s → Encodes ipv4 (now (pool .exit)) (call.withTrial s (call.steppedBack s (s .trial) .routes) (s .trial))) ⌝ }
+    ensures { λ _. ⌜ ((s : State Payload) → Accepts ipv4 capacity call.stepBack (now (pool .entry)) s → Encodes ipv4 (now (pool .exit)) (call.withTrial s (call.steppedBack s (s .trial) .routes) (s .trial))) ⌝ }
 {
     let standing = pool[pool::AT_STANDING];
     let at = pool::slot(capacity, pool::wide(standing - 1));
@@ -21,12 +21,12 @@ fn take_back(pool: &mut [u32], capacity: usize)
         edit::take_out(pool, capacity, prefix);
         return;
     }
-    let hop = pool::hop_at(pool, at + pool::OLD_OFFSET);
+    let payload = pool::payload_at(pool, at + pool::OLD_OFFSET);
     if action == 2 {
-        edit::put_in(pool, capacity, Route { prefix, hop });
+        edit::put_in(pool, capacity, Route { prefix, payload });
         return;
     }
-    edit::swap(pool, capacity, Route { prefix, hop });
+    edit::swap(pool, capacity, Route { prefix, payload });
 }
 
 // Take back the newest recorded change; the trial stays open.

@@ -13,7 +13,7 @@ hop-from-requires c κs = search needs
 returns : tie.Need-returns
 returns c =
     let made = c .before .new in
-    route-in (made .result) (c .hop-from .result) (made .ensures .0) (made .ensures .1) (c .hop-from .ensures)
+    route-in (made .result) (c .hop-from .result) (c .before .before .args .origin) (made .ensures .0) (made .ensures .1) (c .hop-from .ensures)
 
 pub route-from-spec : {M : Type 1} → statement M
 route-from-spec = tie.close (tie.spec new-requires hop-from-requires returns)

@@ -61,62 +61,71 @@ open-trial-requires-2 c κs = search needs
 delete-requires-2 : tie.Need-delete-requires-2
 delete-requires-2 c κs = search needs
 
+delete-requires-3 : tie.Need-delete-requires-3
+delete-requires-3 c κs = search needs
+
 back-out-requires : tie.Need-back-out-requires
 back-out-requires c κs = search needs
 
 same-length-2 : tie.Need-same-length-2
 same-length-2 c =
     let after-back-out = c .before .before in
-    let after-delete2 = after-back-out .before .before .before .before in
-    let after-open-trial2 = after-delete2 .before .before .before .before in
+    let after-delete3 = after-back-out .before .before .before .before in
+    let after-open-trial2 = after-delete3 .before .before .before .before in
     let after-keep-trial = after-open-trial2 .before .before .before .before in
     let after-step-back = after-keep-trial .before .before .before .before in
     let after-change-hop = after-step-back .before .before .before .before in
-    let after-delete = after-change-hop .before .before .before .before in
-    let after-add4 = after-delete .before .before .before .before in
+    let after-delete2 = after-change-hop .before .before .before .before in
+    let after-add4 = after-delete2 .before .before .before .before in
     let after-open-trial = after-add4 .before .before .before .before in
-    let after-add3 = after-open-trial .before .before .before .before .before .before in
-    let after-add2 = after-add3 .before .before .before .before in
+    let after-lookup = after-open-trial .before .before in
+    let after-add3 = after-lookup .before .before .before .before in
+    let after-delete = after-add3 .before .before .before .before in
+    let after-add2 = after-delete .before .before .before .before in
     let after-add = after-add2 .before .before .before .before in
-    let after-fresh = after-add .before .before .before .before .before .before in
-    after-back-out .back-out .ensures .long ∙ after-delete2 .delete2 .ensures .long ∙ after-open-trial2 .open-trial2 .ensures .long ∙
+    let after-enum-told = after-add .before .before in
+    let after-fresh = after-enum-told .before .before .before .before in
+    after-back-out .back-out .ensures .long ∙ after-delete3 .delete3 .ensures .long ∙ after-open-trial2 .open-trial2 .ensures .long ∙
     after-keep-trial .keep-trial .ensures .long ∙ after-step-back .step-back .ensures .long ∙ after-change-hop .change-hop .ensures .long ∙
-    after-delete .delete .ensures .long ∙ after-add4 .add4 .ensures .long ∙ after-open-trial .open-trial .ensures .long ∙
-    after-add3 .add3 .ensures .long ∙ after-add2 .add2 .ensures .long ∙ after-add .add .ensures .long ∙ after-fresh .fresh .ensures .long
+    after-delete2 .delete2 .ensures .long ∙ after-add4 .add4 .ensures .long ∙ after-open-trial .open-trial .ensures .long ∙
+    after-add3 .add3 .ensures .long ∙ after-delete .delete .ensures .long ∙ after-add2 .add2 .ensures .long ∙
+    after-add .add .ensures .long ∙ after-fresh .fresh .ensures .long
 
 -- the promises of the calls, and what they make of the run
 returns-2 : tie.Need-returns-2
 returns-2 c =
     let after-back-out = c .before .before in
-    let after-delete2 = after-back-out .before .before .before .before in
-    let after-open-trial2 = after-delete2 .before .before .before .before in
+    let after-delete3 = after-back-out .before .before .before .before in
+    let after-open-trial2 = after-delete3 .before .before .before .before in
     let after-keep-trial = after-open-trial2 .before .before .before .before in
     let after-step-back = after-keep-trial .before .before .before .before in
     let after-change-hop = after-step-back .before .before .before .before in
-    let after-delete = after-change-hop .before .before .before .before in
-    let after-add4 = after-delete .before .before .before .before in
+    let after-delete2 = after-change-hop .before .before .before .before in
+    let after-add4 = after-delete2 .before .before .before .before in
     let after-open-trial = after-add4 .before .before .before .before in
     let after-lookup = after-open-trial .before .before in
     let after-add3 = after-lookup .before .before .before .before in
-    let after-add2 = after-add3 .before .before .before .before in
+    let after-delete = after-add3 .before .before .before .before in
+    let after-add2 = after-delete .before .before .before .before in
     let after-add = after-add2 .before .before .before .before in
     let after-enum-told = after-add .before .before in
     let after-fresh = after-enum-told .before .before .before .before in
-    let ran = followed _ _ _ _ _ _ _ _ _ _ _ _ _ _ _ _ _ _ _ _ _ _ _ _ _ _ _ _ _ _ _ _ _ _ _ _ _ _ _ _ _
+    let ran = followed _ _ _ _ _ _ _ _ _ _ _ _ _ _ _ _ _ _ _ _ _ _ _ _ _ _ _ _ _ _ _ _ _ _ _ _ _ _ _ _ _ _ _ _
     (after-fresh .fresh .ensures)
     (ap doneNumber (after-enum-told .enum-told .given .1))
     (after-add .add .ensures)
     (after-add2 .add2 .ensures)
+    (after-delete .delete .ensures)
     (after-add3 .add3 .ensures)
     (after-lookup .lookup .ensures)
     (after-open-trial .open-trial .ensures)
     (after-add4 .add4 .ensures)
-    (after-delete .delete .ensures)
+    (after-delete2 .delete2 .ensures)
     (after-change-hop .change-hop .ensures)
     (after-step-back .step-back .ensures)
     (after-keep-trial .keep-trial .ensures)
     (after-open-trial2 .open-trial2 .ensures)
-    (after-delete2 .delete2 .ensures)
+    (after-delete3 .delete3 .ensures)
     (after-back-out .back-out .ensures) in
     (λ h. refl, (λ h. ran, λ h. followed-routes _ _ ran))
 
@@ -131,16 +140,17 @@ rehearse-spec =
     returns
     add-requires
     add-requires-2
+    delete-requires
     add-requires-3
     lookup-requires
     open-trial-requires
     add-requires-4
-    delete-requires
+    delete-requires-2
     change-hop-requires
     step-back-requires
     keep-trial-requires
     open-trial-requires-2
-    delete-requires-2
+    delete-requires-3
     back-out-requires
     same-length-2
     returns-2)

@@ -8,13 +8,13 @@ use Rattle.apply.proofs.make.add.Tie as tie
 
 put-in-requires : tie.Need-put-in-requires
 put-in-requires c κs =
-    let start = c .before .before .before in
+    let start = c .before .before .before .before in
     (start .pre .0, (start .pre .1 .0, add-to-put ipv4 laid4 _ _ _ _ (start .pre .1 .1)))
 
 note-requires : tie.Need-note-requires
 note-requires c κs =
     let after-put-in = c .before .before .before in
-    let start = after-put-in .before .before .before .before in
+    let start = after-put-in .before .before .before .before .before in
     let a = start .pre .1 .1 in
     (search needs, add-slot ipv4 laid4 _ _ _ _ a _ (after-put-in .put-in .ensures _ (add-to-put ipv4 laid4 _ _ _ _ a)))
 

@@ -9,7 +9,7 @@ use borrow.Author.Needs.{needs}
 use lib.ListN.{getD}
 use Rattle.model.specs.Prefix.{Prefix, matches}
 use Rattle.model.specs.Routes.{Route}
-use Rattle.model.specs.Ipv4.{Hop}
+use Rattle.model.specs.Ipv4.{Payload}
 use Rattle.route.specs.Means.{prefixOf}
 use Rattle.pool.specs.Layout.{heldPrefix, leftAt}
 use Rattle.pool.specs.Ipv4.{ipv4}
@@ -67,7 +67,7 @@ risen c = c .before .before .before
 -- the prefix that was read, and the test of it
 held : (c : tie.After-route-at Inv-loop μ-loop Inv-climb μ-climb) →
     prefixOf (c .route-at .result .prefix) ≡ heldPrefix ipv4 (words (c .before .before)) (c .before .loop .place .0)
-held c = ap (λ (r : Route Hop). r .prefix) (c .route-at .ensures)
+held c = ap (λ (r : Route Payload). r .prefix) (c .route-at .ensures)
 
 length-held : (c : tie.After-route-at Inv-loop μ-loop Inv-climb μ-climb) →
     c .route-at .result .prefix .length .0 ≡ heldPrefix ipv4 (words (c .before .before)) (c .before .loop .place .0) .length

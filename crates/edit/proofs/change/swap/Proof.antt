@@ -15,11 +15,11 @@ held-at-requires c κs = search needs
 enum-known-place : tie.Need-enum-known-place
 enum-known-place c = search needs
 
-swap-hop-requires : tie.Need-swap-hop-requires
-swap-hop-requires c κs =
+swap-payload-requires : tie.Need-swap-payload-requires
+swap-payload-requires c κs =
     let after-place = c .before .before in
     let after-held-at = after-place .before .before in
-    let start = after-held-at .before .before .before .before in
+    let start = after-held-at .before .before .before .before .before in
     let u = start .pre .0 in
     let v = subst (HeldRight ipv4 _ _ _) (after-place .place .given .1) (after-held-at .held-at .ensures) .inPool in
     (omega (arith, u .1, v .1), omega (arith, u .0, v .1))
@@ -32,11 +32,11 @@ same-length c = search needs
 
 returns : tie.Need-returns
 returns c =
-    let after-swap-hop = c .before .before in
-    let after-place = after-swap-hop .before .before .before in
+    let after-swap-payload = c .before .before in
+    let after-place = after-swap-payload .before .before .before in
     let after-held-at = after-place .before .before in
     let held = subst (HeldRight ipv4 _ _ _) (after-place .place .given .1) (after-held-at .held-at .ensures) in
-    λ s p. swap-done ipv4 laid4 _ _ _ s p _ _ _ _ held (after-swap-hop .swap-hop .ensures)
+    λ s p. swap-done ipv4 laid4 _ _ _ s p _ _ _ _ held (after-swap-payload .swap-payload .ensures)
 
 same-length-2 : tie.Need-same-length-2
 same-length-2 c = search needs
@@ -52,7 +52,7 @@ swap-spec =
     (tie.spec
     held-at-requires
     enum-known-place
-    swap-hop-requires
+    swap-payload-requires
     enum-told
     same-length
     returns

@@ -1,5 +1,6 @@
 -- The two numbers make the prefix that the call names, `table::delete` keeps its promise, and the code is its number: `as-call`.
 use mathlib.Core.Path.{ap}
+use Rattle.model.specs.State.{plain}
 use Rattle.model.specs.Call.{delete}
 use Rattle.pool.specs.Ipv4.{ipv4}
 use Rattle.promise.specs.Trees.{tree}
@@ -26,7 +27,7 @@ returns c =
     let after-delete = c .before .before .before in
     let made = after-delete .before .before .new in
     let named = prefix-in (made .result) (made .ensures .0) (made .ensures .1) in
-    as-call (tree ipv4) (ap delete named) (c .number .ensures) (after-delete .delete .ensures)
+    as-call (tree ipv4) (ap (delete plain) named) (c .number .ensures) (after-delete .delete .ensures)
 
 pub rishavand-delete-spec : {M : Type 1} → statement M
 rishavand-delete-spec =

@@ -56,8 +56,8 @@ passed : (c : tie.After-follow Inv-loop μ-loop)
 passed c = omega (arith, held (read c))
 
 -- the cell behind it
-below : (c : tie.After-follow Inv-loop μ-loop) → c .before .seat2 .result + 5 ≡ seat-of (at-loop (read c)) + ipv4 .nextOffset
-below c = ap (λ (n : ℕ). n + 5) (c .before .seat2 .ensures)
+below : (c : tie.After-follow Inv-loop μ-loop) → c .before .seat2 .result + ipv4 .nextOffset ≡ seat-of (at-loop (read c)) + ipv4 .nextOffset
+below c = ap (λ (n : ℕ). n + ipv4 .nextOffset) (c .before .seat2 .ensures)
 
 loop-holds : tie.Need-loop-holds Inv-loop μ-loop
 loop-holds c = (c .before .pre .1, inl refl, chain-start ipv4 _ _ _ _ _)

@@ -1,4 +1,4 @@
--- The word is read 5 past the place that `seat` says.
+-- The word is read 7 past the place that `seat` says.
 use Prim.Native.Nat.{ℕ, _+_}
 use mathlib.Core.Path.{ap}
 use lib.ListN.{getD}
@@ -21,7 +21,7 @@ shared-slice-read-result c = search needs
 returns : tie.Need-returns
 returns c =
     let pool = c .before .before .before .args .pool .now in
-    ap (λ (n : ℕ). getD pool (n + 5) 0) (c .before .seat .ensures)
+    ap (λ (n : ℕ). getD pool (n + 7) 0) (c .before .seat .ensures)
 
 pub next-at-spec : {M : Type 1} → statement M
 next-at-spec =

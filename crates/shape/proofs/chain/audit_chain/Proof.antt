@@ -3,7 +3,7 @@
 use mathlib.Core.Path.{ap, subst}
 use native.Mathlib.Omega.{arith}
 use borrow.Author.Needs.{needs}
-use Rattle.model.specs.Ipv4.{Hop}
+use Rattle.model.specs.Ipv4.{Payload}
 use Rattle.model.specs.Routes.{Route}
 use Rattle.pool.specs.Ipv4.{ipv4}
 use Rattle.shape.specs.Chain.{HungSays}
@@ -59,7 +59,7 @@ Says c =
 returns-2 : tie.Need-returns-2 Inv-loop μ-loop
 returns-2 c =
     let at = c .before .before .before .before in
-    let address = ap (λ (r : Route Hop). r .prefix .address) (at .before .before .route-at .ensures) in
+    let address = ap (λ (r : Route Payload). r .prefix .address) (at .before .before .route-at .ensures) in
     let bad = subst (Says at) (c .enum-told .given .1) (c .before .before .step .ensures) in
     let goes-on = c .before .before .before .loop-test .taken in
     chain-bad ipv4 _ _ _ _ _ _ _ _ (at .before .route-link .ensures) (at .loop .inv) address goes-on bad

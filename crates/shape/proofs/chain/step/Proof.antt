@@ -7,7 +7,7 @@ use mathlib.Core.Logic.{⊎-elim}
 use native.Mathlib.Omega.{arith}
 use borrow.Author.Needs.{needs}
 use borrow.Author.Tests.{not-true, not-false}
-use Rattle.model.specs.Ipv4.{Hop}
+use Rattle.model.specs.Ipv4.{Payload}
 use Rattle.model.specs.Routes.{Route}
 use Rattle.model.proofs.Tests.{not-both}
 use Rattle.pool.specs.Ipv4.{ipv4}
@@ -73,10 +73,10 @@ route-at-requires c κs = let f = fine c in omega arith
 
 -- its address and its length are those of the place
 address-read : (c : tie.After-route-at) → c .route-at .result .prefix .address ≡ addressAt ipv4 (words (placed c)) (place (placed c))
-address-read c = ap (λ (r : Route Hop). r .prefix .address) (c .route-at .ensures)
+address-read c = ap (λ (r : Route Payload). r .prefix .address) (c .route-at .ensures)
 
 length-read : (c : tie.After-route-at) → c .route-at .result .prefix .length .0 ≡ lengthAt ipv4 (words (placed c)) (place (placed c))
-length-read c = ap (λ (r : Route Hop). r .prefix .length) (c .route-at .ensures)
+length-read c = ap (λ (r : Route Payload). r .prefix .length) (c .route-at .ensures)
 
 returns-3 : tie.Need-returns-3
 returns-3 c i f =

@@ -8,7 +8,7 @@ use native.Mathlib.Omega.{arith}
 use borrow.Author.Needs.{needs}
 use lib.ListN.{length}
 use Rattle.model.specs.Routes.{Route}
-use Rattle.model.specs.Ipv4.{Hop}
+use Rattle.model.specs.Ipv4.{Payload}
 use Rattle.pool.specs.Ipv4.{ipv4}
 use Rattle.standing.specs.Changes.{Tabled, TakenSays}
 use Rattle.standing.specs.declared.changes.Taken.{Taken}
@@ -19,7 +19,7 @@ use Rattle.standing.proofs.changes.can_take_back.Tie as tie
 abbrev Inv-loop : tie.InvT-loop
 Inv-loop pool capacity standing routes held₀ left₀ held left =
     (left ≤ standing) × (held ≤ capacity)
-    × ((l : List (Route Hop)) → Tabled ipv4 capacity pool l → routes ≡ length l → Standing ipv4 capacity pool standing left held l)
+    × ((l : List (Route Payload)) → Tabled ipv4 capacity pool l → routes ≡ length l → Standing ipv4 capacity pool standing left held l)
 
 abbrev μ-loop : tie.MeasureT-loop
 μ-loop pool capacity standing routes held₀ left₀ held left = left
@@ -67,7 +67,7 @@ loop-again c =
     let loop = at-loop .loop in
     let args = at-loop .before .before .args in
     let one : loop .left ≡ suc (loop .left - 1) = omega arith in
-    let Left : List (Route Hop) → ℕ → Type 0 = λ l m. Standing ipv4 (args .capacity) (args .pool .now) (args .standing) m (loop .held) l in
+    let Left : List (Route Payload) → ℕ → Type 0 = λ l m. Standing ipv4 (args .capacity) (args .pool .now) (args .standing) m (loop .held) l in
     (omega arith, taken c .0, λ l t e. standing-step ipv4 _ _ _ _ _ _ l (omega arith) t (taken c) (subst (Left l) one (loop .inv .2 l t e)))
 
 returns-2 : tie.Need-returns-2 Inv-loop μ-loop

@@ -1,5 +1,5 @@
 -- The slot's prefix and action are read. A prefix that does not obey, and an action that there is not, refuse the change;
--- for each action the change is fine exactly when its hops are: a law of `Recording` each way.
+-- for each action the change is fine exactly when its payloads are: a law of `Recording` each way.
 use Prim.Native.Nat.{ℕ, _+_}
 use mathlib.Core.Path.{_≡_, sym, ap, subst, _∙_}
 use mathlib.Core.Bool.{true, Bool}
@@ -54,12 +54,12 @@ action-there c =
     let start = after-slot .before .before in
     ap (word (start .args .pool .now)) (after-slot .slot .ensures)
 
--- what is said of a hop at an offset from the slot's place, said of the slot
-hop-fine : (c : tie.After-slot) (good : Bool) (offset : ℕ) →
+-- what is said of a payload at an offset from the slot's place, said of the slot
+payload-fine : (c : tie.After-slot) (good : Bool) (offset : ℕ) →
     let args = c .before .before .args in
     let fine = PayloadFine ipv4 (args .pool .now) (changedAt ipv4 (args .capacity) (args .pool .now) (args .change)) in
     (good ≡ true) ↔ fine (c .slot .result + offset) → (good ≡ true) ↔ fine (ipv4 .slot (args .capacity) (args .change) + offset)
-hop-fine c good offset h =
+payload-fine c good offset h =
     let args = c .before .before .args in
     let fine = PayloadFine ipv4 (args .pool .now) (changedAt ipv4 (args .capacity) (args .pool .now) (args .change)) in
     subst (λ (n : ℕ). (good ≡ true) ↔ fine (n + offset)) (c .slot .ensures) h
@@ -91,32 +91,32 @@ obeyed c =
       sym (ap mayHold (prefix-there after-prefix-at)) ∙ sym (c .before .may-be-held .ensures) ∙ not-false _ (c .if2 .left),
     )
 
-add-hop-is-good : tie.Need-add-hop-is-good
-add-hop-is-good c = search needs
+add-payload-is-good : tie.Need-add-payload-is-good
+add-payload-is-good c = search needs
 
-hop-is-good-requires : tie.Need-hop-is-good-requires
-hop-is-good-requires c κs = search needs
+payload-is-good-requires : tie.Need-payload-is-good-requires
+payload-is-good-requires c κs = search needs
 
 returns-3 : tie.Need-returns-3
 returns-3 c =
     let else2 = c .before .before in
     let after-prefix-at = else2 .before .before .before .before in
     let action = sym (action-there after-prefix-at) ∙ c .before .if3 .taken in
-    let fine = hop-fine (after-prefix-at .before .before) (c .hop-is-good .result) 6 (c .hop-is-good .ensures _) in
+    let fine = payload-fine (after-prefix-at .before .before) (c .payload-is-good .result) 8 (c .payload-is-good .ensures _) in
     (λ t. add-fine ipv4 _ _ _ action (obeyed else2) (fine .0 t), λ f. fine .1 (fine-add ipv4 _ _ _ action f))
 
-add-hop-is-good-2 : tie.Need-add-hop-is-good-2
-add-hop-is-good-2 c = search needs
+add-payload-is-good-2 : tie.Need-add-payload-is-good-2
+add-payload-is-good-2 c = search needs
 
-hop-is-good-requires-2 : tie.Need-hop-is-good-requires-2
-hop-is-good-requires-2 c κs = search needs
+payload-is-good-requires-2 : tie.Need-payload-is-good-requires-2
+payload-is-good-requires-2 c κs = search needs
 
 returns-4 : tie.Need-returns-4
 returns-4 c =
     let else2 = c .before .before .before in
     let after-prefix-at = else2 .before .before .before .before in
     let action = sym (action-there after-prefix-at) ∙ c .before .if4 .taken in
-    let fine = hop-fine (after-prefix-at .before .before) (c .hop-is-good2 .result) 3 (c .hop-is-good2 .ensures _) in
+    let fine = payload-fine (after-prefix-at .before .before) (c .payload-is-good2 .result) 3 (c .payload-is-good2 .ensures _) in
     (λ t. delete-fine ipv4 _ _ _ action (obeyed else2) (fine .0 t), λ f. fine .1 (fine-delete ipv4 _ _ _ action f))
 
 returns-5 : tie.Need-returns-5
@@ -126,39 +126,39 @@ returns-5 c =
     let e = action-there after-prefix-at in
     refused (λ f. action-known ipv4 _ _ _ (λ q. else3 .if3 .left (e ∙ q)) (λ q. c .before .if4 .left (e ∙ q)) (λ q. c .if5 .taken (e ∙ q)) f)
 
-add-hop-is-good-3 : tie.Need-add-hop-is-good-3
-add-hop-is-good-3 c = search needs
+add-payload-is-good-3 : tie.Need-add-payload-is-good-3
+add-payload-is-good-3 c = search needs
 
-hop-is-good-requires-3 : tie.Need-hop-is-good-requires-3
-hop-is-good-requires-3 c κs = search needs
+payload-is-good-requires-3 : tie.Need-payload-is-good-requires-3
+payload-is-good-requires-3 c κs = search needs
 
 returns-6 : tie.Need-returns-6
 returns-6 c =
     let else5 = c .before .before in
     let after-prefix-at = else5 .before .before .before .before .before .before .before in
     let action = sym (action-there after-prefix-at) ∙ else5 .if5 .left in
-    let old = c .before .hop-is-good3 in
-    let old-fine = hop-fine (after-prefix-at .before .before) (old .result) 3 (old .ensures _) in
+    let old = c .before .payload-is-good3 in
+    let old-fine = payload-fine (after-prefix-at .before .before) (old .result) 3 (old .ensures _) in
     refused (λ f. not-both (old-fine .1 (fine-change ipv4 _ _ _ action f .0)) (not-true _ (c .if6 .taken)))
 
-add-hop-is-good-4 : tie.Need-add-hop-is-good-4
-add-hop-is-good-4 c = search needs
+add-payload-is-good-4 : tie.Need-add-payload-is-good-4
+add-payload-is-good-4 c = search needs
 
-hop-is-good-requires-4 : tie.Need-hop-is-good-requires-4
-hop-is-good-requires-4 c κs = search needs
+payload-is-good-requires-4 : tie.Need-payload-is-good-requires-4
+payload-is-good-requires-4 c κs = search needs
 
 returns-7 : tie.Need-returns-7
 returns-7 c =
-    let after-hop-is-good3 = c .before .before in
-    let else5 = after-hop-is-good3 .before in
+    let after-payload-is-good3 = c .before .before in
+    let else5 = after-payload-is-good3 .before in
     let else2 = else5 .before .before .before in
     let after-prefix-at = else2 .before .before .before .before in
     let after-slot = after-prefix-at .before .before in
     let action = sym (action-there after-prefix-at) ∙ else5 .if5 .left in
-    let old = after-hop-is-good3 .hop-is-good3 in
-    let new = c .hop-is-good4 in
-    let old-fine = hop-fine after-slot (old .result) 3 (old .ensures _) in
-    let new-fine = hop-fine after-slot (new .result) 6 (new .ensures _) in
+    let old = after-payload-is-good3 .payload-is-good3 in
+    let new = c .payload-is-good4 in
+    let old-fine = payload-fine after-slot (old .result) 3 (old .ensures _) in
+    let new-fine = payload-fine after-slot (new .result) 8 (new .ensures _) in
     let old-good = old-fine .0 (not-false _ (c .before .if6 .left)) in
     (λ t. change-fine ipv4 _ _ _ action (obeyed else2) old-good (new-fine .0 t), λ f. new-fine .1 (fine-change ipv4 _ _ _ action f .1))
 
@@ -175,16 +175,16 @@ change-is-good-spec =
     returns
     may-be-held-requires
     returns-2
-    add-hop-is-good
-    hop-is-good-requires
+    add-payload-is-good
+    payload-is-good-requires
     returns-3
-    add-hop-is-good-2
-    hop-is-good-requires-2
+    add-payload-is-good-2
+    payload-is-good-requires-2
     returns-4
     returns-5
-    add-hop-is-good-3
-    hop-is-good-requires-3
+    add-payload-is-good-3
+    payload-is-good-requires-3
     returns-6
-    add-hop-is-good-4
-    hop-is-good-requires-4
+    add-payload-is-good-4
+    payload-is-good-requires-4
     returns-7)

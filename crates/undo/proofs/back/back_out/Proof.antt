@@ -4,7 +4,7 @@ use mathlib.Core.Path.{_≡_, refl, _∙_}
 use native.Mathlib.Omega.{arith}
 use borrow.Author.Needs.{needs}
 use lib.ListN.{length}
-use Rattle.model.specs.Ipv4.{Hop}
+use Rattle.model.specs.Ipv4.{Payload}
 use Rattle.model.specs.State.{State}
 use Rattle.model.specs.Call.{backOut}
 use Rattle.pool.specs.Layout.{word}
@@ -16,7 +16,7 @@ use Rattle.undo.proofs.back.back_out.Statement.{statement}
 use Rattle.undo.proofs.back.back_out.Tie as tie
 
 abbrev Inv-loop : tie.InvT-loop
-Inv-loop pool₀ capacity pool = (length pool ≡ length pool₀) × ((s : State Hop) → Accepts ipv4 capacity backOut pool₀ s → Going ipv4 capacity pool s)
+Inv-loop pool₀ capacity pool = (length pool ≡ length pool₀) × ((s : State Payload) → Accepts ipv4 capacity backOut pool₀ s → Going ipv4 capacity pool s)
 
 abbrev μ-loop : tie.MeasureT-loop
 μ-loop pool₀ capacity pool = word pool 4

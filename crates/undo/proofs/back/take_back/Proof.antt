@@ -71,24 +71,24 @@ returns c =
     λ s a. add-undone ipv4 _ _ s a _ at _ read _ one
     (after-take-out .take-out .ensures s (to-take ipv4 _ _ s a _ at _ read (λ z. omega (arith, z, one))))
 
-add-hop-at : tie.Need-add-hop-at
-add-hop-at c =
+add-payload-at : tie.Need-add-payload-at
+add-payload-at c =
     let after-slot = c .before .before .before .before .before in
     omega (arith, fits after-slot, start after-slot .pre .0)
 
-hop-at-requires : tie.Need-hop-at-requires
-hop-at-requires c κs =
+payload-at-requires : tie.Need-payload-at-requires
+payload-at-requires c κs =
     let after-slot = c .before .before .before .before .before in
     omega (arith, fits after-slot)
 
 put-in-requires : tie.Need-put-in-requires
 put-in-requires c κs =
-    let after-hop-at = c .before .before in
-    let after-prefix-at = after-hop-at .before .before .before in
+    let after-payload-at = c .before .before in
+    let after-prefix-at = after-payload-at .before .before .before in
     let after-slot = after-prefix-at .before .before .before in
     let pre = start after-slot .pre in
     let read = after-prefix-at .prefix-at .ensures in
-    let put = to-put ipv4 _ _ _ (pre .1 .1) _ (place after-slot) _ read _ (after-hop-at .hop-at .ensures) (c .before .if2 .taken) in
+    let put = to-put ipv4 _ _ _ (pre .1 .1) _ (place after-slot) _ read _ (after-payload-at .payload-at .ensures) (c .before .if2 .taken) in
     (pre .0, (pre .1 .0, put))
 
 same-length-2 : tie.Need-same-length-2
@@ -98,11 +98,11 @@ returns-2 : tie.Need-returns-2
 returns-2 c =
     let after-put-in = c .before .before in
     let then2 = after-put-in .before .before in
-    let after-hop-at = then2 .before in
-    let after-prefix-at = after-hop-at .before .before .before in
+    let after-payload-at = then2 .before in
+    let after-prefix-at = after-payload-at .before .before .before in
     let at = place (after-prefix-at .before .before .before) in
     let read = after-prefix-at .prefix-at .ensures in
-    let old = after-hop-at .hop-at .ensures in
+    let old = after-payload-at .payload-at .ensures in
     let two = then2 .if2 .taken in
     λ s a. delete-undone ipv4 _ _ s a _ at _ read _ old _ two
     (after-put-in .put-in .ensures s (to-put ipv4 _ _ s a _ at _ read _ old two))
@@ -123,12 +123,12 @@ returns-3 : tie.Need-returns-3
 returns-3 c =
     let after-swap = c .before .before in
     let else2 = after-swap .before .before in
-    let after-hop-at = else2 .before in
-    let else1 = after-hop-at .before .before in
+    let after-payload-at = else2 .before in
+    let else1 = after-payload-at .before .before in
     let after-prefix-at = else1 .before in
     let at = place (after-prefix-at .before .before .before) in
     let read = after-prefix-at .prefix-at .ensures in
-    let old = after-hop-at .hop-at .ensures in
+    let old = after-payload-at .payload-at .ensures in
     λ s a. change-undone ipv4 _ _ s a _ at _ read _ old _ (λ z. omega (arith, z, else1 .if1 .left)) (λ z. omega (arith, z, else2 .if2 .left))
     (after-swap .swap .ensures s (to-take ipv4 _ _ s a _ at _ read (λ z. omega (arith, z, else2 .if2 .left))))
 
@@ -147,8 +147,8 @@ take-back-spec =
     take-out-requires
     same-length
     returns
-    add-hop-at
-    hop-at-requires
+    add-payload-at
+    payload-at-requires
     put-in-requires
     same-length-2
     returns-2
