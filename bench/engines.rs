@@ -34,7 +34,7 @@ impl Table {
         table
     }
 
-    pub fn add(&mut self, &[address, length, kind, port, gateway]: &Route) -> u32 {
+    pub fn add(&mut self, &[address, length, kind, port, gateway, ..]: &Route) -> u32 {
         unsafe { c::rishavand_add(self.words.as_mut_ptr(), self.words.len(), address, length, kind, port, gateway) }
     }
 

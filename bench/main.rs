@@ -3,6 +3,7 @@
 //!     bench PICTURE [--quick]    --quick takes few turns: it shows that all works, and its figures say nothing
 mod engines;
 #[path = "../reference/limits.rs"]
+#[allow(dead_code)] // no route that is measured has a metric
 mod limits;
 mod measure;
 mod plot;

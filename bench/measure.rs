@@ -46,7 +46,7 @@ fn median(mut times: Vec<f64>) -> f64 {
 
 /// One pass over all addresses, as often as `passes` says; the nanoseconds of one lookup.
 fn pass<E: Engine>(engine: &E, addresses: &[u32], passes: usize) -> f64 {
-    let mut route: Route = [0; 5];
+    let mut route = Route::default();
     let start = Instant::now();
     for _ in 0..passes {
         for &to in addresses {
@@ -67,7 +67,7 @@ fn passes<E: Engine>(engine: &E, addresses: &[u32], turn: f64) -> usize {
 fn agree(engines: [&dyn Engine; 4], addresses: &[u32]) {
     for &to in addresses {
         let answers = engines.map(|engine| {
-            let mut route = [0; 5];
+            let mut route = Route::default();
             (engine.lookup(to, &mut route), route)
         });
         assert!(answers.iter().all(|answer| *answer == answers[0]), "{to:#010x}: {answers:?}");

@@ -1,10 +1,11 @@
 //! The tables and the addresses that every engine is measured on: the same for all, and the same in every run.
 use crate::limits::LAST_PORT;
 
-/// Address, length, kind, port, gateway, as in the C interface.
-pub type Route = [u32; 5];
+/// Address, length, kind, port, gateway, origin, metric, as in the C interface. All are fixed: origin and metric are 0. Every
+/// engine holds and writes out all seven, though only the proved table makes something of the last two.
+pub type Route = [u32; 7];
 
-pub const DEFAULT: Route = [0, 0, 1, 0, 0x8CFC_0D21];
+pub const DEFAULT: Route = [0, 0, 1, 0, 0x8CFC_0D21, 0, 0];
 
 /// How many addresses one pass looks up: enough that no branch is learnt by heart.
 const ADDRESSES: usize = 4096;
@@ -70,7 +71,7 @@ fn drawn(count: usize, seed: u64, prefix: impl Fn(&mut Dice) -> (u32, u32)) -> V
         let held = routes.iter().any(|r| r[0] == address && r[1] == length);
         if !held {
             let port = dice.below(LAST_PORT + 1);
-            routes.push([address, length, 0, port, 0]);
+            routes.push([address, length, 0, port, 0, 0, 0]);
         }
     }
     routes
@@ -107,7 +108,7 @@ const SPINE: u32 = 27;
 /// whole spine, passes every leaf by, and on the climb tries all their routes in vain.
 fn deep(count: usize) -> Vec<Route> {
     let prefixes = (1..=32).flat_map(|length| (0..length.min(SPINE)).map(move |ones| (mask(ones), length)));
-    let routes = prefixes.zip(0..).map(|((address, length), i)| [address, length, 0, i % (LAST_PORT + 1), 0]);
+    let routes = prefixes.zip(0..).map(|((address, length), i)| [address, length, 0, i % (LAST_PORT + 1), 0, 0, 0]);
     let routes: Vec<Route> = routes.take(count).collect();
     assert_eq!(routes.len(), count, "the deep table can't be as large as that");
     routes

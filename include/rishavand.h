@@ -25,11 +25,12 @@
 extern "C" {
 #endif
 
-/* The largest capacity, the most changes that may stand in a trial, and the last
- * port; the first is 0. */
+/* The largest capacity, the most changes that may stand in a trial, the last
+ * port, of which the first is 0, and the last metric, of which the first is 1. */
 #define RISHAVAND_LARGEST_CAPACITY 512
 #define RISHAVAND_MOST_CHANGES 64
 #define RISHAVAND_LAST_PORT 15
+#define RISHAVAND_LAST_METRIC 15
 
 /* What rishavand_words answers for a good capacity, as a constant, for an array:
  * 8 words, 12 for each route and 16 for each change. */
@@ -56,7 +57,9 @@ enum rishavand_number {
     RISHAVAND_NO_TRIAL = 11,        /* no trial is open */
     RISHAVAND_NOTHING_STANDING = 12, /* trial open, nothing standing */
     RISHAVAND_NO_MATCH = 13,        /* no route matches */
-    RISHAVAND_NO_FURTHER = 14       /* no further route */
+    RISHAVAND_NO_FURTHER = 14,      /* no further route */
+    RISHAVAND_ROUTE_IS_FIXED = 15,  /* a learned change or delete aimed at a fixed route */
+    RISHAVAND_BAD_METRIC = 16       /* learned metric 0 or above RISHAVAND_LAST_METRIC */
 };
 
 /* The kinds of a hop. Which of port and gateway a kind uses stands beside it;
@@ -67,6 +70,12 @@ enum rishavand_kind {
     RISHAVAND_REJECT = 2            /* nowhere: neither */
 };
 
+/* Where a route came from. A metric goes out with a learned one, else 0. */
+enum rishavand_origin {
+    RISHAVAND_FIXED = 0,            /* a plain add or change made it */
+    RISHAVAND_LEARNED = 1           /* a learned add or change made it */
+};
+
 /* Where each word of a route stands. */
 enum rishavand_route_word {
     RISHAVAND_ADDRESS = 0,
@@ -74,7 +83,9 @@ enum rishavand_route_word {
     RISHAVAND_KIND = 2,
     RISHAVAND_PORT = 3,
     RISHAVAND_GATEWAY = 4,
-    RISHAVAND_ROUTE_WORDS = 5
+    RISHAVAND_ORIGIN = 5,
+    RISHAVAND_METRIC = 6,
+    RISHAVAND_ROUTE_WORDS = 7
 };
 
 /* How many words a pool of this capacity needs; 0 for a capacity that
@@ -88,22 +99,35 @@ uint32_t rishavand_fresh(uint32_t *pool, size_t words, uint32_t capacity);
 /* Whether the pool is sound: 1 yes, 0 no. Any words may be asked about. */
 uint32_t rishavand_sound(const uint32_t *pool, size_t words);
 
-/* One route more. 0, or the first of 9, 3, 4, 5, 8, 7. */
+/* One route more, and it is fixed. 0, or the first of 9, 3, 4, 5, 8, 7. */
 uint32_t rishavand_add(uint32_t *pool, size_t words, uint32_t address, uint32_t length,
                        uint32_t kind, uint32_t port, uint32_t gateway);
 
-/* Another hop for the route of a prefix; the same hop again is accepted and
- * counts as a change. 0, or the first of 9, 3, 4, 6, 8. */
+/* Another hop for the route of a prefix, which is fixed from then on; the same
+ * hop again is accepted and counts as a change. 0, or the first of 9, 3, 4, 6, 8. */
 uint32_t rishavand_change(uint32_t *pool, size_t words, uint32_t address, uint32_t length,
                           uint32_t kind, uint32_t port, uint32_t gateway);
 
-/* One route less. 0, or the first of 9, 3, 6, 8. */
+/* One route less, whatever its origin. 0, or the first of 9, 3, 6, 8. */
 uint32_t rishavand_delete(uint32_t *pool, size_t words, uint32_t address, uint32_t length);
 
+/* The same for what a routing protocol learns: it leaves fixed routes alone.
+ * One learned route more. 0, or the first of 9, 3, 4, 16, 5, 8, 7. */
+uint32_t rishavand_learned_add(uint32_t *pool, size_t words, uint32_t address, uint32_t length,
+                               uint32_t kind, uint32_t port, uint32_t gateway, uint32_t metric);
+
+/* Another hop and another metric for a learned route.
+ * 0, or the first of 9, 3, 4, 16, 6, 15, 8. */
+uint32_t rishavand_learned_change(uint32_t *pool, size_t words, uint32_t address, uint32_t length,
+                                  uint32_t kind, uint32_t port, uint32_t gateway, uint32_t metric);
+
+/* One learned route less. 0, or the first of 9, 3, 6, 15, 8. */
+uint32_t rishavand_learned_delete(uint32_t *pool, size_t words, uint32_t address, uint32_t length);
+
 /* The route with the longest prefix that matches a destination: address, length,
- * kind, port, gateway. 0 or 13 in a sound pool. It is the call made per packet
- * and does not test the whole pool: in one that is not sound it ends, stays
- * inside the pool and answers 0, 9 or 13. */
+ * kind, port, gateway, origin, metric. 0 or 13 in a sound pool. It is the call
+ * made per packet and does not test the whole pool: in one that is not sound it
+ * ends, stays inside the pool and answers 0, 9 or 13. */
 uint32_t rishavand_lookup(const uint32_t *pool, size_t words, uint32_t destination,
                           uint32_t route[RISHAVAND_ROUTE_WORDS]);
 
@@ -125,8 +149,9 @@ uint32_t rishavand_mask_length(uint32_t mask, uint32_t length[1]);
  * the call that it is passed to answers 3 in its place. It answers no number. */
 uint32_t rishavand_masked(uint32_t mask);
 
-/* Opens a trial: from here on each accepted add, delete and change is recorded,
- * at most RISHAVAND_MOST_CHANGES. 0, or the first of 9, 10. */
+/* Opens a trial: from here on each accepted add, delete and change, plain and
+ * learned, is recorded with its whole route, so that taking it back restores the
+ * origin too; at most RISHAVAND_MOST_CHANGES. 0, or the first of 9, 10. */
 uint32_t rishavand_open(uint32_t *pool, size_t words);
 
 /* Keeps the trial's changes and closes it. 0, or the first of 9, 11. */

@@ -2,11 +2,11 @@
 //! every call refuses with 9 and changes nothing; where it says yes, the pool must behave as a table, and the list takes over
 //! its routes to say how.
 use crate::calls::Calls;
-use crate::limits::{LAST_PORT, MOST_CHANGES, MOST_ROUTES};
+use crate::limits::{LAST_METRIC, LAST_PORT, MOST_CHANGES, MOST_ROUTES};
 use crate::model::Model;
 use crate::pool::{Pool, LENT};
 use crate::random::{script_over, Dice};
-use crate::rules::{mask, Hop, Prefix, Route};
+use crate::rules::{mask, By, Hop, Origin, Prefix, Route};
 use crate::speak::answer;
 use crate::words::routes_if_sound;
 
@@ -59,13 +59,21 @@ fn no_complaint(pool: &Pool) -> Result<(), Wrong> {
 type Change = (&'static str, fn(&mut Pool) -> u32);
 
 const HOST: Prefix = Prefix { address: 0x0A00_0001, length: 32 };
+const NO_PREFIX: Prefix = Prefix { address: 1, length: 33 };
+const PLAIN: Route = Route { prefix: HOST, hop: Hop::Direct(1), origin: Origin::Fixed };
+const LEARNED: Route = Route { origin: Origin::Learned(LAST_METRIC), ..PLAIN };
+/// Wrong in all that can be wrong with a route.
+const BAD: Route = Route { prefix: NO_PREFIX, hop: Hop::Direct(LAST_PORT + 1), origin: Origin::Learned(LAST_METRIC + 1) };
 
-const CHANGES: [Change; 9] = [
-    ("add", |p| p.add(HOST, Hop::Direct(1))),
-    ("add of a bad route", |p| p.add(Prefix { address: 1, length: 33 }, Hop::Direct(LAST_PORT + 1))),
-    ("add of no hop", |p| p.add_kind(HOST, 3)),
-    ("delete", |p| p.delete(HOST)),
-    ("change", |p| p.change(HOST, Hop::Reject)),
+const CHANGES: [Change; 12] = [
+    ("add", |p| p.add(PLAIN)),
+    ("learned add", |p| p.add(LEARNED)),
+    ("learned add of a bad route", |p| p.add(BAD)),
+    ("delete", |p| p.delete(HOST, By::Plain)),
+    ("learned delete", |p| p.delete(HOST, By::Learner)),
+    ("change", |p| p.change(PLAIN)),
+    ("learned change", |p| p.change(LEARNED)),
+    ("learned change of a bad route", |p| p.change(BAD)),
     ("open", |p| p.open()),
     ("keep", |p| p.keep()),
     ("back", |p| p.back_out()),
@@ -81,6 +89,9 @@ fn refuses(pool: &Pool, dice: &mut Dice) -> Result<(), Wrong> {
         ensure(number == 9, &format!("{name} answers {number} in a pool that is not sound"))?;
         no_complaint(&copy)?;
     }
+    let mut copy = pool.clone();
+    ensure(copy.with_kind(HOST, 3, 0) == [9; 4], "a hop that is none is not 9 first")?;
+    no_complaint(&copy)?;
     ensure(pool.first() == Err(9), "first is not 9 in a pool that is not sound")?;
     ensure(pool.next(HOST) == Err(9), "next is not 9 in a pool that is not sound")?;
     ensure(pool.next(Prefix { address: 1, length: 8 }) == Err(9), "next after a bad prefix is not 9 first")?;
@@ -108,7 +119,8 @@ fn walk(pool: &Pool) -> Result<Vec<Route>, Wrong> {
     let mut routes: Vec<Route> = vec![];
     let mut found = pool.first();
     while let Ok(route) = found {
-        ensure(route.prefix.well_formed() && route.hop.good(), &format!("the walk gives {route:?}"))?;
+        let good = route.prefix.well_formed() && route.hop.good() && route.origin.good();
+        ensure(good, &format!("the walk gives {route:?}"))?;
         let in_order = routes.last().is_none_or(|last| last.prefix.rank() < route.prefix.rank());
         ensure(in_order, &format!("the walk gives {route:?} out of order"))?;
         ensure(routes.len() < MOST_ROUTES as usize, "the walk goes on past the largest capacity")?;
@@ -129,6 +141,7 @@ fn behaves(pool: &Pool, dice: &mut Dice) -> Result<(), Wrong> {
     no_complaint(pool)?;
     knows_kinds(pool)?;
     if dice.one_in(4) {
+        knows_origins(pool, &model)?;
         fills(pool, &model, room)?;
     }
     let mut copy = pool.clone();
@@ -151,12 +164,32 @@ fn behaves(pool: &Pool, dice: &mut Dice) -> Result<(), Wrong> {
     agree(&mut copy, &mut model, &lines).map_err(told)
 }
 
-/// A kind above 2 is no hop: 4, after 3 and before all that asks what is held.
+/// A kind above 2 is no hop: 4, after 3 and before 16 and all that asks what is held.
 fn knows_kinds(pool: &Pool) -> Result<(), Wrong> {
     let mut copy = pool.clone();
     for kind in [3, u32::MAX] {
-        ensure(copy.add_kind(HOST, kind) == 4, "an add of no hop is not 4")?;
-        ensure(copy.add_kind(Prefix { address: 1, length: 33 }, kind) == 3, "an add of no hop is 4 before 3")?;
+        ensure(copy.with_kind(HOST, kind, 0) == [4; 4], "a hop that is none is not 4, with a metric that is none")?;
+        ensure(copy.with_kind(HOST, kind, 1) == [4; 4], "a hop that is none is not 4")?;
+        ensure(copy.with_kind(NO_PREFIX, kind, 0) == [3; 4], "a hop that is none is 4 before 3")?;
+    }
+    no_complaint(&copy)
+}
+
+/// A metric outside 1 to the last is 16, before all that asks what is held. A learner may change and delete just the routes that
+/// were learned; at a fixed one it is 15.
+fn knows_origins(pool: &Pool, model: &Model) -> Result<(), Wrong> {
+    let mut copy = pool.clone();
+    copy.keep();
+    for metric in [0, LAST_METRIC + 1, u32::MAX] {
+        let route = Route { origin: Origin::Learned(metric), ..PLAIN };
+        ensure(copy.add(route) == 16, "a learned add of no metric is not 16")?;
+        ensure(copy.change(route) == 16, "a learned change to no metric is not 16")?;
+    }
+    for &held in model.routes() {
+        let due = if held.origin == Origin::Fixed { 15 } else { 0 };
+        let learned = Route { prefix: held.prefix, ..LEARNED };
+        ensure(copy.change(learned) == due, &format!("a learned change of {held} is not {due}"))?;
+        ensure(copy.delete(held.prefix, By::Learner) == due, &format!("a learned delete of {held} is not {due}"))?;
     }
     no_complaint(&copy)
 }
@@ -169,7 +202,7 @@ fn fills(pool: &Pool, model: &Model, room: u32) -> Result<(), Wrong> {
     let hosts = (0..).map(|i| Prefix { address: 0xC0A8_0000 + 3 * i, length: 32 }).filter(|host| !held(host));
     for (count, host) in hosts.take(room as usize + 1).enumerate() {
         let due = if count < room as usize { 0 } else { 7 };
-        let number = copy.add(host, Hop::Direct(1));
+        let number = copy.add(Route { prefix: host, ..PLAIN });
         ensure(number == due, &format!("with room for {room}, add {} answers {number}", count + 1))?;
     }
     no_complaint(&copy)

@@ -1,27 +1,27 @@
 //! Pools that are not sound and have a name, some made to keep a careless reader busy for ever, and the sound ones beside them.
 //! All have the largest capacity. The words are written after docs/POOL.md and not by the code under test.
+mod origins;
+
 use crate::calls::Calls;
 use crate::damage;
-use crate::limits::{size, HEAD, LAST_PORT, MOST_CHANGES, MOST_ROUTES};
+use crate::limits::{size, HEAD, LAST_METRIC, LAST_PORT, MOST_CHANGES, MOST_ROUTES};
 use crate::pool::{Pool, LENT};
-use crate::words::{rows, Rows};
+use crate::words::{rows, Rows, AFTER, BEFORE, GATEWAY, LENGTH, NEXT, PORT};
 
 const SIZE: usize = size(MOST_ROUTES);
 const ROWS: [Rows; 3] = rows(MOST_ROUTES as usize);
 /// The last place of either sort.
 const LAST: usize = MOST_ROUTES as usize - 1;
 
-/// A route place: kind, port, gateway, address, length, next link.
+/// A route place: kind, port, gateway, origin, metric, address, length, next link.
 const fn route_at(i: usize) -> usize {
     ROWS[0].at(i)
 }
-const PORT: usize = 1;
-const GATEWAY: usize = 2;
-const LENGTH: usize = 4;
-const NEXT: usize = 5;
 const DIRECT: u32 = 1;
 const VIA: u32 = 2;
 const REJECT: u32 = 3;
+const FIXED: u32 = 0;
+const LEARNED: u32 = 1;
 
 /// An inner place: mark, left link, right link.
 const fn inner_at(j: usize) -> usize {
@@ -80,12 +80,12 @@ fn pool(count: u32, root: u32, rows: &[(usize, &[u32])]) -> Vec<u32> {
     rows.iter().fold(head, |words, (at, row)| put(words, *at, row))
 }
 
-/// 0.0.0.0/0, 127.0.0.0/8 and 127.0.0.1/32 in places 0 to 2; inner places 0 and 1.
+/// 0.0.0.0/0, 127.0.0.0/8 and 127.0.0.1/32 in places 0 to 2, the last of them fixed; inner places 0 and 1.
 fn good() -> Vec<u32> {
     let rows: [(usize, &[u32]); 5] = [
-        (route_at(0), &[VIA, 0, 0x8CFC_0D21, 0, 0]),
-        (route_at(1), &[REJECT, 0, 0, 0x7F00_0000, 8]),
-        (route_at(2), &[DIRECT, 2, 0, 0x7F00_0001, 32]),
+        (route_at(0), &[VIA, 0, 0x8CFC_0D21, LEARNED, LAST_METRIC, 0, 0]),
+        (route_at(1), &[REJECT, 0, 0, LEARNED, 1, 0x7F00_0000, 8]),
+        (route_at(2), &[DIRECT, 2, 0, FIXED, 0, 0x7F00_0001, 32]),
         (inner_at(0), &[2, to_route(0), to_inner(1)]),
         (inner_at(1), &[32, to_route(1), to_route(2)]),
     ];
@@ -94,7 +94,9 @@ fn good() -> Vec<u32> {
 
 fn sound() -> Vec<Named> {
     let standing = standing_good(MOST_CHANGES as u32);
-    vec![("three routes", good(), LENT), ("as many standing changes as there may be", standing, LENT)]
+    let whole = |(name, words)| (name, words, LENT);
+    let pools = [("three routes", good()), ("as many standing changes as there may be", standing)];
+    pools.into_iter().chain(origins::unread()).map(whole).collect()
 }
 
 fn unsound() -> impl Iterator<Item = Named> {
@@ -109,6 +111,7 @@ fn unsound() -> impl Iterator<Item = Named> {
         .chain(filled().map(whole))
         .chain(shapes().map(whole))
         .chain(trials().map(whole))
+        .chain(origins::bad().map(whole))
 }
 
 const SHORT: [(&str, usize); 4] = [("a word too few", SIZE - 1), ("the head alone", HEAD), ("one word", 1), ("no word", 0)];
@@ -178,7 +181,7 @@ fn shapes() -> impl Iterator<Item = (&'static str, Vec<u32>)> {
     .into_iter()
 }
 
-const ROUND: [u32; 6] = [DIRECT, 2, 0, 0x7F00_0000, 24, to_route(1)];
+const ROUND: [u32; 8] = [DIRECT, 2, 0, FIXED, 0, 0x7F00_0000, 24, to_route(1)];
 
 /// The words of an inner place.
 fn inner(words: Vec<u32>, j: u32, mark: u32, [left, right]: [u32; 2]) -> Vec<u32> {
@@ -201,7 +204,7 @@ fn long_cycle() -> Vec<u32> {
 fn long_chain() -> Vec<u32> {
     let route = |words, i: u32| {
         let next = to_route((i + 1) % MOST_ROUTES);
-        put(words, route_at(i as usize), &[REJECT, 0, 0, 0, i % 33, next])
+        put(words, route_at(i as usize), &[REJECT, 0, 0, FIXED, 0, 0, i % 33, next])
     };
     (0..MOST_ROUTES).fold(pool(MOST_ROUTES, to_route(0), &[]), route)
 }
@@ -210,8 +213,8 @@ fn long_chain() -> Vec<u32> {
 /// 0.0.0.0/0, and a used place outside the tree makes up for the count: nothing else is wrong.
 fn beyond() -> Vec<u32> {
     let rows: [(usize, &[u32]); 4] = [
-        (route_at(0), &[REJECT, 0, 0, 0, 8, to_route(MOST_ROUTES)]),
-        (route_at(1), &[REJECT, 0, 0, 0xE000_0000, 8]),
+        (route_at(0), &[REJECT, 0, 0, FIXED, 0, 0, 8, to_route(MOST_ROUTES)]),
+        (route_at(1), &[REJECT, 0, 0, FIXED, 0, 0xE000_0000, 8]),
         (route_at(5), &[REJECT]),
         (inner_at(0), &[1, to_route(0), to_route(1)]),
     ];
@@ -238,9 +241,10 @@ fn standing(count: u32) -> Vec<u32> {
     with(&[(3, 1), (4, count)])
 }
 
-/// A change in a slot; its hops are reject.
+/// A change in a slot; both its payloads are reject, and fixed.
 fn slot(words: Vec<u32>, k: usize, action: u32, address: u32, length: u32) -> Vec<u32> {
-    put(words, ROWS[2].at(k), &[action, address, length, REJECT, 0, 0, REJECT])
+    let head = put(words, ROWS[2].at(k), &[action, address, length]);
+    [BEFORE, AFTER].into_iter().fold(head, |words, payload| put(words, ROWS[2].at(k) + payload, &[REJECT, 0, 0, FIXED, 0]))
 }
 
 /// The same, where each slot there is has a good change of 127.0.0.1/32 from reject to reject.

@@ -1,20 +1,21 @@
 //! Damage to a pool, as lines of `poke`. A word drawn at random hits nothing of interest most of the time, so most damage keeps
 //! to the rows of docs/POOL.md: a word or a whole row is taken from another row of the same sort, which nearly fits.
 use crate::calls::Calls;
-use crate::limits::MOST_ROUTES;
+use crate::limits::{CHANGE, LAST_METRIC, MOST_ROUTES, ROUTE};
 use crate::pool::Pool;
 use crate::random::Dice;
-use crate::words::{rows, Rows};
+use crate::words::{rows, Rows, AFTER, BEFORE, METRIC, ORIGIN};
 
 /// The damaged pool, and the lines that make it.
 pub fn damaged(pool: &Pool, dice: &mut Dice) -> (Pool, Vec<String>) {
     let mut hurt = Hurt { pool: pool.clone(), lines: vec![] };
     for _ in 0..dice.of(&[1, 1, 1, 2, 3, 6]) {
-        match dice.below(8) {
+        match dice.below(9) {
             0..=2 => hurt.change(dice),
             3..=4 => hurt.copy_word(dice),
             5..=6 => hurt.swap_words(dice),
-            _ => hurt.copy_row(dice),
+            7 => hurt.copy_row(dice),
+            _ => hurt.origin(dice),
         }
     }
     (hurt.pool, hurt.lines)
@@ -65,6 +66,19 @@ impl Hurt {
         let wild = dice.draw() as u32;
         let word = dice.of(&[old.wrapping_add(1), old.wrapping_sub(1), old ^ bit, small, small % 5, wild, 0, u32::MAX]);
         self.poke(place, word);
+    }
+
+    /// The origin of a route, or of one side of a change: both its words at once, since most often only together they are good.
+    fn origin(&mut self, dice: &mut Dice) {
+        let Some((sort, row, _)) = self.two_rows(dice) else { return };
+        let payload = match sort.length {
+            ROUTE => row,
+            CHANGE => row + dice.of(&[BEFORE, AFTER]),
+            _ => return,
+        };
+        let wild = dice.draw() as u32;
+        self.poke(payload + ORIGIN, dice.of(&[0, 1, 1, 1, 2, wild]));
+        self.poke(payload + METRIC, dice.of(&[0, 1, LAST_METRIC, LAST_METRIC + 1, wild]));
     }
 
     fn copy_word(&mut self, dice: &mut Dice) {

@@ -6,6 +6,27 @@ extern "C" {
     pub fn rishavand_add(pool: *mut u32, words: usize, at: u32, length: u32, kind: u32, port: u32, gateway: u32) -> u32;
     pub fn rishavand_change(pool: *mut u32, words: usize, at: u32, length: u32, kind: u32, port: u32, gateway: u32) -> u32;
     pub fn rishavand_delete(pool: *mut u32, words: usize, at: u32, length: u32) -> u32;
+    pub fn rishavand_learned_add(
+        pool: *mut u32,
+        words: usize,
+        at: u32,
+        length: u32,
+        kind: u32,
+        port: u32,
+        gateway: u32,
+        metric: u32,
+    ) -> u32;
+    pub fn rishavand_learned_change(
+        pool: *mut u32,
+        words: usize,
+        at: u32,
+        length: u32,
+        kind: u32,
+        port: u32,
+        gateway: u32,
+        metric: u32,
+    ) -> u32;
+    pub fn rishavand_learned_delete(pool: *mut u32, words: usize, at: u32, length: u32) -> u32;
     pub fn rishavand_lookup(pool: *const u32, words: usize, destination: u32, route: *mut u32) -> u32;
     pub fn rishavand_first(pool: *const u32, words: usize, route: *mut u32) -> u32;
     pub fn rishavand_next(pool: *const u32, words: usize, at: u32, length: u32, route: *mut u32) -> u32;

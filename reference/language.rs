@@ -1,14 +1,14 @@
 //! The console's language: a line of bytes becomes a command, nothing (blank or comment), or what is wrong with it.
 //!
 //! A line is read from left to right and the first thing wrong is the one told; words left over at the end are too many.
-use crate::rules::{self, Hop, Prefix, NO_LENGTH};
+use crate::rules::{self, By, Hop, Origin, Prefix, Route, NO_LENGTH};
 
 #[derive(Clone, Copy, Debug)]
 pub enum Command {
     Fresh(u32),
-    Add(Prefix, Hop),
-    Change(Prefix, Hop),
-    Delete(Prefix),
+    Add(Route),
+    Change(Route),
+    Delete(Prefix, By),
     Lookup(u32),
     First,
     Next(Prefix),
@@ -63,9 +63,9 @@ impl<'a> Words<'a> {
     fn command(&mut self, name: &[u8]) -> Result<Command, Wrong> {
         Ok(match name {
             b"fresh" => Command::Fresh(self.number()?),
-            b"add" => Command::Add(self.prefix()?, self.hop()?),
-            b"change" => Command::Change(self.prefix()?, self.hop()?),
-            b"delete" => Command::Delete(self.prefix()?),
+            b"add" => Command::Add(self.route()?),
+            b"change" => Command::Change(self.route()?),
+            b"delete" => Command::Delete(self.prefix()?, self.by()?),
             b"lookup" => Command::Lookup(self.address()?),
             b"first" => Command::First,
             b"next" => Command::Next(self.prefix()?),
@@ -98,12 +98,33 @@ impl<'a> Words<'a> {
         if let Some(slash) = word.iter().position(|&byte| byte == b'/') {
             return Ok(Prefix { address: address(&word[..slash])?, length: number(&word[slash + 1..])? });
         }
-        let address = address(word)?;
-        if self.next()? != b"mask" {
+        // without a slash it is a prefix only with a mask behind it, whatever the word is
+        if !matches!(self.next(), Ok(b"mask")) {
             return Err("bad prefix");
         }
+        let address = address(word)?;
         let length = rules::mask_length(self.address()?).unwrap_or(NO_LENGTH);
         Ok(Prefix { address, length })
+    }
+
+    fn route(&mut self) -> Result<Route, Wrong> {
+        Ok(Route { prefix: self.prefix()?, hop: self.hop()?, origin: self.origin()? })
+    }
+
+    /// The word `learned`, or nothing more: any other word is one too many.
+    fn by(&mut self) -> Result<By, Wrong> {
+        match self.next() {
+            Err(_) => Ok(By::Plain),
+            Ok(b"learned") => Ok(By::Learner),
+            Ok(_) => Err("too many words"),
+        }
+    }
+
+    fn origin(&mut self) -> Result<Origin, Wrong> {
+        match self.by()? {
+            By::Plain => Ok(Origin::Fixed),
+            By::Learner => Ok(Origin::Learned(self.number()?)),
+        }
     }
 
     fn hop(&mut self) -> Result<Hop, Wrong> {

@@ -1,8 +1,8 @@
 //! The second table: routes in a list in the order they came, every route tried at each question, and for a trial a pile of
-//! copies of the list. No tree, no pool, nothing in common with the proved table but document 01.
+//! copies of the list. No tree, no pool, nothing in common with the proved table but documents 01 and 02.
 use crate::calls::Calls;
 use crate::limits::{size, MOST_CHANGES, MOST_ROUTES};
-use crate::rules::{self, Hop, Prefix, Route};
+use crate::rules::{self, By, Origin, Prefix, Route};
 
 #[derive(Clone, Default)]
 pub struct Model {
@@ -21,6 +21,12 @@ struct Table {
 impl Table {
     fn at(&self, prefix: Prefix) -> Option<usize> {
         self.routes.iter().position(|r| r.prefix == prefix)
+    }
+
+    /// Whether a change by this one is aimed at a route that is there and is none of theirs to touch.
+    fn kept_from(&self, by: By, prefix: Prefix) -> bool {
+        let held = self.at(prefix).map(|i| self.routes[i].origin);
+        by == By::Learner && held == Some(Origin::Fixed)
     }
 
     fn trial_full(&self) -> bool {
@@ -73,36 +79,48 @@ impl Calls for Model {
         0
     }
 
-    fn add(&mut self, prefix: Prefix, hop: Hop) -> u32 {
+    fn add(&mut self, route: Route) -> u32 {
         let Some(t) = &mut self.table else { return 9 };
         let number = first_due(&[
-            (3, !prefix.well_formed()),
-            (4, !hop.good()),
-            (5, t.at(prefix).is_some()),
+            (3, !route.prefix.well_formed()),
+            (4, !route.hop.good()),
+            (16, !route.origin.good()),
+            (5, t.at(route.prefix).is_some()),
             (8, t.trial_full()),
             (7, t.full()),
         ]);
         if number == 0 {
             t.record();
-            t.routes.push(Route { prefix, hop });
+            t.routes.push(route);
         }
         number
     }
 
-    fn change(&mut self, prefix: Prefix, hop: Hop) -> u32 {
+    fn change(&mut self, route: Route) -> u32 {
         let Some(t) = &mut self.table else { return 9 };
-        let number =
-            first_due(&[(3, !prefix.well_formed()), (4, !hop.good()), (6, t.at(prefix).is_none()), (8, t.trial_full())]);
+        let number = first_due(&[
+            (3, !route.prefix.well_formed()),
+            (4, !route.hop.good()),
+            (16, !route.origin.good()),
+            (6, t.at(route.prefix).is_none()),
+            (15, t.kept_from(route.origin.by(), route.prefix)),
+            (8, t.trial_full()),
+        ]);
         if number == 0 {
             t.record();
-            t.routes.iter_mut().filter(|r| r.prefix == prefix).for_each(|r| r.hop = hop);
+            t.routes.iter_mut().filter(|r| r.prefix == route.prefix).for_each(|r| *r = route);
         }
         number
     }
 
-    fn delete(&mut self, prefix: Prefix) -> u32 {
+    fn delete(&mut self, prefix: Prefix, by: By) -> u32 {
         let Some(t) = &mut self.table else { return 9 };
-        let number = first_due(&[(3, !prefix.well_formed()), (6, t.at(prefix).is_none()), (8, t.trial_full())]);
+        let number = first_due(&[
+            (3, !prefix.well_formed()),
+            (6, t.at(prefix).is_none()),
+            (15, t.kept_from(by, prefix)),
+            (8, t.trial_full()),
+        ]);
         if number == 0 {
             t.record();
             t.routes.retain(|r| r.prefix != prefix);

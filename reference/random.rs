@@ -1,10 +1,10 @@
 //! Scripts of commands from a seed: the same seed gives the same script. Prefixes are drawn from a few neighbouring
 //! addresses, so that they collide, nest and share addresses; the list runs along, so that a script can name what is held.
 use crate::calls::Calls;
-use crate::limits::{LAST_PORT, MOST_ROUTES};
+use crate::limits::{LAST_METRIC, LAST_PORT, MOST_ROUTES};
 use crate::model::Model;
-use crate::rules::{mask, Hop, Prefix};
-use crate::speak::{answer, dotted};
+use crate::rules::{mask, By, Hop, Origin, Prefix};
+use crate::speak::{answer, dotted, hand};
 
 /// Splitmix: small, and good enough to draw from.
 pub struct Dice(pub u64);
@@ -57,7 +57,7 @@ struct Writer {
 }
 
 /// Lines with one thing wrong each, and lines that say nothing.
-const ODD_LINES: [&str; 20] = [
+const ODD_LINES: [&str; 27] = [
     "fly",
     "Add 10.0.0.0/8 reject",
     "lookup",
@@ -76,6 +76,13 @@ const ODD_LINES: [&str; 20] = [
     "change 10.0.0.0/8 direct",
     "change 10.0.0.0/8 via 3",
     "delete 10.0.0.0/8 reject",
+    "add 10.0.0.0/8 direct 1 fixed",
+    "add 10.0.0.0/8 reject learned",
+    "add 10.0.0.0/8 direct 3 learned -1",
+    "change 10.0.0.0/8 direct 1 learned 4294967296",
+    "change 10.0.0.0/8 via 1 1.2.3.4 learned 3 4",
+    "delete 10.0.0.0/8 Learned",
+    "delete 10.0.0.0/8 learned 3",
     "",
     " \t# nothing but this",
 ];
@@ -173,17 +180,34 @@ impl Writer {
         self.dice.of(&[Hop::Direct(port), Hop::Via(port, gateway), Hop::Reject]).to_string()
     }
 
+    /// Half of the changes are a learner's, so that each half meets what the other left.
+    fn by(&mut self) -> By {
+        self.dice.of(&[By::Plain, By::Learner])
+    }
+
+    /// What stands behind the hop of a route; its metric is a good one most of the time.
+    fn origin_words(&mut self) -> String {
+        let any = self.dice.draw() as u32;
+        let bad = [0, LAST_METRIC + 1, u32::MAX, any];
+        let good = [1, 2, LAST_METRIC, 1 + any % LAST_METRIC];
+        let metric = if self.dice.one_in(8) { self.dice.of(&bad) } else { self.dice.of(&good) };
+        match self.by() {
+            By::Plain => String::new(),
+            By::Learner => format!(" {}", Origin::Learned(metric)),
+        }
+    }
+
     fn change(&mut self) {
         let drawn = self.dice.below(16);
         let line = if drawn < self.adds {
             let prefix = if self.dice.one_in(12) { self.held() } else { self.prefix() };
-            format!("add {} {}", self.prefix_words(prefix), self.hop_words())
+            format!("add {} {}{}", self.prefix_words(prefix), self.hop_words(), self.origin_words())
         } else if drawn % 2 == 0 {
             let prefix = self.held();
-            format!("delete {}", self.prefix_words(prefix))
+            format!("delete {}{}", self.prefix_words(prefix), hand(self.by()))
         } else {
             let prefix = self.held();
-            format!("change {} {}", self.prefix_words(prefix), self.hop_words())
+            format!("change {} {}{}", self.prefix_words(prefix), self.hop_words(), self.origin_words())
         };
         self.say(line);
     }

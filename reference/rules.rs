@@ -1,6 +1,6 @@
-//! The rules of a prefix, a hop and a route, each by its plainest reading: a mask is made bit by bit, a match is a mask and a
+//! The rules of a prefix, a hop, an origin and a route, each by its plainest reading: a mask is made bit by bit, a match is a mask and a
 //! comparison. Nothing here is shared with the proved table.
-use crate::limits::LAST_PORT;
+use crate::limits::{LAST_METRIC, LAST_PORT};
 
 #[derive(Clone, Copy, PartialEq, Eq, Debug)]
 pub struct Prefix {
@@ -15,10 +15,25 @@ pub enum Hop {
     Reject,
 }
 
+/// Where a route came from; a learned one has its metric.
+#[derive(Clone, Copy, PartialEq, Eq, Debug)]
+pub enum Origin {
+    Fixed,
+    Learned(u32),
+}
+
+/// Who asks for a change: a plain call may touch any route, a learner's no fixed one.
+#[derive(Clone, Copy, PartialEq, Eq, Debug)]
+pub enum By {
+    Plain,
+    Learner,
+}
+
 #[derive(Clone, Copy, PartialEq, Eq, Debug)]
 pub struct Route {
     pub prefix: Prefix,
     pub hop: Hop,
+    pub origin: Origin,
 }
 
 /// What stands in for the length of a mask with a hole: no prefix has it, so the call refuses it with 3 in its order.
@@ -55,6 +70,23 @@ impl Hop {
             Hop::Direct(port) => port <= LAST_PORT,
             Hop::Via(port, gateway) => port <= LAST_PORT && gateway != 0,
             Hop::Reject => true,
+        }
+    }
+}
+
+impl Origin {
+    pub fn good(self) -> bool {
+        match self {
+            Origin::Fixed => true,
+            Origin::Learned(metric) => (1..=LAST_METRIC).contains(&metric),
+        }
+    }
+
+    /// Who makes routes of this origin.
+    pub fn by(self) -> By {
+        match self {
+            Origin::Fixed => By::Plain,
+            Origin::Learned(_) => By::Learner,
         }
     }
 }

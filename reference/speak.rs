@@ -1,7 +1,7 @@
 //! A command put to a table, and its answer as the line that the console prints.
 use crate::calls::Calls;
 use crate::language::{command, Command};
-use crate::rules::{Hop, Prefix, Route};
+use crate::rules::{By, Hop, Origin, Prefix, Route};
 use std::fmt;
 
 pub fn dotted(address: u32) -> String {
@@ -24,9 +24,26 @@ impl fmt::Display for Hop {
     }
 }
 
+impl fmt::Display for Origin {
+    fn fmt(&self, f: &mut fmt::Formatter) -> fmt::Result {
+        match self {
+            Origin::Fixed => write!(f, "fixed 0"),
+            Origin::Learned(metric) => write!(f, "learned {metric}"),
+        }
+    }
+}
+
 impl fmt::Display for Route {
     fn fmt(&self, f: &mut fmt::Formatter) -> fmt::Result {
-        write!(f, "{} {}", self.prefix, self.hop)
+        write!(f, "{} {} {}", self.prefix, self.hop, self.origin)
+    }
+}
+
+/// What a delete says behind its prefix.
+pub fn hand(by: By) -> &'static str {
+    match by {
+        By::Plain => "",
+        By::Learner => " learned",
     }
 }
 
@@ -51,9 +68,9 @@ fn list(table: &impl Calls) -> Result<String, u32> {
 fn obey(table: &mut impl Calls, said: Command) -> Result<String, &'static str> {
     let text = match said {
         Command::Fresh(capacity) => table.fresh(capacity).to_string(),
-        Command::Add(prefix, hop) => table.add(prefix, hop).to_string(),
-        Command::Change(prefix, hop) => table.change(prefix, hop).to_string(),
-        Command::Delete(prefix) => table.delete(prefix).to_string(),
+        Command::Add(route) => table.add(route).to_string(),
+        Command::Change(route) => table.change(route).to_string(),
+        Command::Delete(prefix, by) => table.delete(prefix, by).to_string(),
         Command::Lookup(destination) => with_value(table.lookup(destination)),
         Command::First => with_value(table.first()),
         Command::Next(after) => with_value(table.next(after)),

@@ -1,7 +1,20 @@
-//! A second soundness test, from docs/POOL.md and document 01's sentence about a sound pool and not from the proved one: it
+//! A second soundness test, from docs/POOL.md and the rules' sentences about a sound pool and not from the proved one: it
 //! gathers the whole tree first and then tests each sentence by brute force.
-use crate::limits::{size, CHANGE, HEAD, INNER, MOST_CHANGES, MOST_ROUTES, ROUTE};
-use crate::rules::{mask, Hop, Prefix, Route};
+use crate::limits::{size, CHANGE, HEAD, INNER, MOST_CHANGES, MOST_ROUTES, PAYLOAD, ROUTE};
+use crate::rules::{mask, Hop, Origin, Prefix, Route};
+
+/// A payload: kind, port, gateway, origin, metric.
+pub const PORT: usize = 1;
+pub const GATEWAY: usize = 2;
+pub const ORIGIN: usize = 3;
+pub const METRIC: usize = 4;
+/// A route place: its payload, then these.
+pub const ADDRESS: usize = PAYLOAD;
+pub const LENGTH: usize = PAYLOAD + 1;
+pub const NEXT: usize = PAYLOAD + 2;
+/// A change: action, address, length, then the payload before it and the one after it.
+pub const BEFORE: usize = 3;
+pub const AFTER: usize = BEFORE + PAYLOAD;
 
 /// A stretch of equal rows in the words of a pool.
 #[derive(Clone, Copy, PartialEq)]
@@ -90,13 +103,13 @@ impl Tree<'_> {
             }
             self.route_places.push(place);
             let row = rows(self.capacity)[0].row(self.words, place);
-            let route = Route { prefix: good_prefix(row[3], row[4])?, hop: good_hop(row)? };
+            let route = good_route(good_prefix(row[ADDRESS], row[LENGTH])?, row)?;
             if last.is_some_and(|p| p.address != route.prefix.address || p.length <= route.prefix.length) {
                 return None;
             }
             last = Some(route.prefix);
             self.routes.push(route);
-            match row[5] {
+            match row[NEXT] {
                 0 => return Some(route.prefix.address),
                 next if next % 2 == 1 => place = (next / 2) as usize,
                 _ => return None,
@@ -119,14 +132,20 @@ fn good_prefix(address: u32, length: u32) -> Option<Prefix> {
     Some(Prefix { address, length }).filter(|prefix| prefix.well_formed())
 }
 
-fn good_hop(words: &[u32]) -> Option<Hop> {
-    let hop = match words[0] {
-        1 => Hop::Direct(words[1]),
-        2 => Hop::Via(words[1], words[2]),
+/// The route of a prefix and of the payload that begins the words. What a hop or an origin does not use is not looked at.
+fn good_route(prefix: Prefix, payload: &[u32]) -> Option<Route> {
+    let hop = match payload[0] {
+        1 => Hop::Direct(payload[PORT]),
+        2 => Hop::Via(payload[PORT], payload[GATEWAY]),
         3 => Hop::Reject,
         _ => return None,
     };
-    Some(hop).filter(|hop| hop.good())
+    let origin = match payload[ORIGIN] {
+        0 => Origin::Fixed,
+        1 => Origin::Learned(payload[METRIC]),
+        _ => return None,
+    };
+    Some(Route { prefix, hop, origin }).filter(|_| hop.good() && origin.good())
 }
 
 /// The changes taken back one by one on a list, newest first.
@@ -138,13 +157,13 @@ fn can_take_back(words: &[u32], capacity: usize, mut held: Vec<Route>) -> bool {
         let at = held.iter().position(|route| route.prefix == prefix);
         match row[0] {
             1 => {
-                good_hop(&row[6..])?;
+                good_route(prefix, &row[AFTER..])?;
                 held.remove(at?);
             }
-            2 if at.is_none() && held.len() < capacity => held.push(Route { prefix, hop: good_hop(&row[3..])? }),
+            2 if at.is_none() && held.len() < capacity => held.push(good_route(prefix, &row[BEFORE..])?),
             3 => {
-                good_hop(&row[6..])?;
-                held[at?].hop = good_hop(&row[3..])?;
+                good_route(prefix, &row[AFTER..])?;
+                held[at?] = good_route(prefix, &row[BEFORE..])?;
             }
             _ => return None,
         }

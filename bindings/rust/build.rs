@@ -14,7 +14,7 @@ fn main() {
     };
     let archive = folder.join(ARCHIVE);
     if !archive.is_file() {
-        // A link error would name fifteen symbols and not the reason.
+        // A link error would name every symbol and not the reason.
         eprintln!(
             "no {}: run `rt staticlib exports`, or set RISHAVAND_LIB to its folder",
             archive.display()

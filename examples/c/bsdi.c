@@ -1,4 +1,4 @@
-/* The route table of the host bsdi, from C: it is filled in no order, asked, walked and tried out. */
+/* The route table of the host bsdi, from C: it is filled in no order, asked, walked, tried out, and told what was learned. */
 #include <inttypes.h>
 #include <stdio.h>
 
@@ -13,17 +13,17 @@ static const size_t words = RISHAVAND_MOST_WORDS;
 
 /* Ports: 0 is le0, 1 is sl0, 2 is lo0. */
 static const uint32_t bsdi[][RISHAVAND_ROUTE_WORDS] = {
-    {IP(224, 0, 0, 1), 32, RISHAVAND_DIRECT, 0, 0},
-    {IP(140, 252, 13, 32), 27, RISHAVAND_DIRECT, 0, 0},
-    {IP(127, 0, 0, 1), 32, RISHAVAND_DIRECT, 2, 0},
-    {IP(0, 0, 0, 0), 0, RISHAVAND_VIA, 0, IP(140, 252, 13, 33)},
-    {IP(140, 252, 13, 65), 32, RISHAVAND_DIRECT, 1, 0},
-    {IP(127, 0, 0, 0), 8, RISHAVAND_REJECT, 0, 0},
-    {IP(140, 252, 13, 33), 32, RISHAVAND_DIRECT, 0, 0},
-    {IP(224, 0, 0, 0), 8, RISHAVAND_DIRECT, 0, 0},
-    {IP(140, 252, 13, 35), 32, RISHAVAND_DIRECT, 2, 0},
-    {IP(128, 32, 33, 5), 32, RISHAVAND_VIA, 0, IP(140, 252, 13, 33)},
-    {IP(140, 252, 13, 34), 32, RISHAVAND_DIRECT, 0, 0},
+    {IP(224, 0, 0, 1), 32, RISHAVAND_DIRECT, 0, 0, RISHAVAND_FIXED, 0},
+    {IP(140, 252, 13, 32), 27, RISHAVAND_DIRECT, 0, 0, RISHAVAND_FIXED, 0},
+    {IP(127, 0, 0, 1), 32, RISHAVAND_DIRECT, 2, 0, RISHAVAND_FIXED, 0},
+    {IP(0, 0, 0, 0), 0, RISHAVAND_VIA, 0, IP(140, 252, 13, 33), RISHAVAND_FIXED, 0},
+    {IP(140, 252, 13, 65), 32, RISHAVAND_DIRECT, 1, 0, RISHAVAND_FIXED, 0},
+    {IP(127, 0, 0, 0), 8, RISHAVAND_REJECT, 0, 0, RISHAVAND_FIXED, 0},
+    {IP(140, 252, 13, 33), 32, RISHAVAND_DIRECT, 0, 0, RISHAVAND_FIXED, 0},
+    {IP(224, 0, 0, 0), 8, RISHAVAND_DIRECT, 0, 0, RISHAVAND_FIXED, 0},
+    {IP(140, 252, 13, 35), 32, RISHAVAND_DIRECT, 2, 0, RISHAVAND_FIXED, 0},
+    {IP(128, 32, 33, 5), 32, RISHAVAND_VIA, 0, IP(140, 252, 13, 33), RISHAVAND_FIXED, 0},
+    {IP(140, 252, 13, 34), 32, RISHAVAND_DIRECT, 0, 0, RISHAVAND_FIXED, 0},
 };
 
 enum { ROUTES = sizeof bsdi / sizeof bsdi[0] };
@@ -50,6 +50,8 @@ static void print_route(const uint32_t route[RISHAVAND_ROUTE_WORDS])
         printf(" reject");
         break;
     }
+    printf(" %s %" PRIu32, route[RISHAVAND_ORIGIN] == RISHAVAND_LEARNED ? "learned" : "fixed",
+           route[RISHAVAND_METRIC]);
 }
 
 static void print_answer(uint32_t number, const uint32_t route[RISHAVAND_ROUTE_WORDS])
@@ -189,11 +191,39 @@ static void tried(void)
     lookup(IP(255, 255, 255, 255));
 }
 
+/* What a neighbour says: fixed routes are none of its business, and what it said it may take back. */
+static void learned(void)
+{
+    const uint32_t ten = IP(10, 0, 0, 0), gateway = IP(140, 252, 13, 33);
+    printf("learned change, learned delete of 127.0.0.0/8, which is fixed: %" PRIu32 " %" PRIu32 "\n",
+           rishavand_learned_change(pool, words, IP(127, 0, 0, 0), 8, RISHAVAND_VIA, 0, gateway, 3),
+           rishavand_learned_delete(pool, words, IP(127, 0, 0, 0), 8));
+    printf("learned add of 10.0.0.0/8 with metric 0, one past the last, 3: %" PRIu32,
+           rishavand_learned_add(pool, words, ten, 8, RISHAVAND_VIA, 0, gateway, 0));
+    printf(" %" PRIu32, rishavand_learned_add(pool, words, ten, 8, RISHAVAND_VIA, 0, gateway,
+                                              RISHAVAND_LAST_METRIC + 1));
+    printf(" %" PRIu32 "\n", rishavand_learned_add(pool, words, ten, 8, RISHAVAND_VIA, 0, gateway, 3));
+    lookup(IP(10, 1, 2, 3));
+    printf("learned change to metric 2: %" PRIu32 "\n",
+           rishavand_learned_change(pool, words, ten, 8, RISHAVAND_VIA, 0, gateway, 2));
+    lookup(IP(10, 1, 2, 3));
+    printf("open: %" PRIu32 "\n", rishavand_open(pool, words));
+    printf("change to reject: %" PRIu32 "\n",
+           rishavand_change(pool, words, ten, 8, RISHAVAND_REJECT, 0, 0));
+    lookup(IP(10, 1, 2, 3));
+    printf("step back, keep: %" PRIu32, rishavand_step_back(pool, words));
+    printf(" %" PRIu32 "\n", rishavand_keep(pool, words));
+    lookup(IP(10, 1, 2, 3));
+    printf("learned delete: %" PRIu32 "\n", rishavand_learned_delete(pool, words, ten, 8));
+    lookup(IP(10, 1, 2, 3));
+}
+
 int main(void)
 {
     filled();
     asked();
     refused();
     tried();
+    learned();
     return 0;
 }

@@ -3,7 +3,6 @@
 //!     draw [--svg]    reads what the console answers to `sound` and then to `peek` of each word from word 0 on
 //!     draw --words    says how many words that are: those of the largest pool
 #[path = "../limits.rs"]
-#[allow(dead_code)] // a drawing asks for no port
 mod limits;
 mod pool;
 mod route;

@@ -1,9 +1,11 @@
 //! What stands in the words of a pool, after docs/POOL.md. The words may be anything: each link is tested before it is
 //! followed and no place is drawn twice, so the reading ends, and what is damaged is told where it stands.
-use crate::limits::{size, HEAD, INNER, MOST_CHANGES, MOST_ROUTES, ROUTE};
+use crate::limits::{size, HEAD, INNER, MOST_CHANGES, MOST_ROUTES, PAYLOAD, ROUTE};
 use crate::route::{mask, Route};
 use std::fmt;
 
+/// How far behind the beginning of a route place its next link stands: behind the payload and the prefix.
+const NEXT: usize = PAYLOAD + 2;
 
 #[derive(Clone, Copy, PartialEq)]
 pub enum Place {
@@ -151,7 +153,7 @@ impl Reader<'_> {
         let mut at = Some(first);
         while let Some(place) = at {
             let row = self.row(Place::Route(place));
-            let (mut route, next) = (Route::read(place, row), row[5]);
+            let (mut route, next) = (Route::read(place, row), row[NEXT]);
             route.faults.extend(routes.last().and_then(|before| route.fault_behind(before)));
             at = match self.next(next) {
                 Ok(next) => next,

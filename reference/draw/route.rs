@@ -1,10 +1,12 @@
 //! A route as the words of its place say it, and what of it breaks the rules.
+use crate::limits::{LAST_METRIC, LAST_PORT, PAYLOAD};
 
 pub struct Route {
     pub place: usize,
     pub address: u32,
     pub length: u32,
     pub hop: String,
+    pub origin: String,
     pub faults: Vec<String>,
 }
 
@@ -19,10 +21,11 @@ fn dotted(address: u32) -> String {
 
 impl Route {
     pub fn read(place: usize, row: &[u32]) -> Route {
-        let (address, length) = (row[3], row[4]);
+        let (address, length) = (row[PAYLOAD], row[PAYLOAD + 1]);
         let (hop, hop_fault) = hop(row[0], row[1], row[2]);
-        let faults = prefix_fault(address, length).into_iter().chain(hop_fault).collect();
-        Route { place, address, length, hop, faults }
+        let (origin, origin_fault) = origin(row[3], row[4]);
+        let faults = [prefix_fault(address, length), hop_fault, origin_fault].into_iter().flatten().collect();
+        Route { place, address, length, hop, origin, faults }
     }
 
     pub fn prefix(&self) -> String {
@@ -53,7 +56,7 @@ fn prefix_fault(address: u32, length: u32) -> Option<String> {
 
 /// The hop as the console says it, and what is wrong with it.
 fn hop(kind: u32, port: u32, gateway: u32) -> (String, Option<String>) {
-    let port_fault = (port > 15).then(|| "a port above 15".to_string());
+    let port_fault = (port > LAST_PORT).then(|| format!("a port above {LAST_PORT}"));
     match kind {
         1 => (format!("direct {port}"), port_fault),
         2 => {
@@ -62,5 +65,18 @@ fn hop(kind: u32, port: u32, gateway: u32) -> (String, Option<String>) {
         }
         3 => ("reject".to_string(), None),
         _ => (format!("hop of kind {kind}"), Some("no such kind of hop".to_string())),
+    }
+}
+
+/// The origin as the console says it, and what is wrong with it. A fixed one does not look at its metric.
+fn origin(origin: u32, metric: u32) -> (String, Option<String>) {
+    match origin {
+        0 => ("fixed 0".to_string(), None),
+        1 => {
+            let good = (1..=LAST_METRIC).contains(&metric);
+            let fault = (!good).then(|| format!("a metric outside 1 to {LAST_METRIC}"));
+            (format!("learned {metric}"), fault)
+        }
+        _ => (format!("of origin {origin}"), Some("no such origin".to_string())),
     }
 }

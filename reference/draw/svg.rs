@@ -12,7 +12,7 @@ const GAP: f64 = 10.0;
 /// From the last inner place to the boxes.
 const REACH: f64 = 60.0;
 const RADIUS: f64 = 11.0;
-const BOX_WIDTH: f64 = 400.0;
+const BOX_WIDTH: f64 = 470.0;
 
 const CAPTION: &str =
     "A circle tests the bit that it names: up is 0, down is 1. A box has the routes of one address, longest first.";
@@ -172,6 +172,7 @@ fn leaf(x: f64, middle: f64, routes: &[Route]) -> String {
         let pale = format!("fill='{PALE}' font-size='11' text-anchor='end'");
         text(x + 12.0, y, &bold, &route.prefix())
             + &text(x + 172.0, y, &plain, &route.hop)
+            + &text(x + 334.0, y, &plain, &route.origin)
             + &text(x + BOX_WIDTH - 10.0, y, &pale, &format!("place {}", route.place))
     };
     frame + &routes.iter().enumerate().map(line).collect::<String>()

@@ -22,7 +22,7 @@ fn lines(node: &Node) -> Vec<String> {
 }
 
 fn route_line(route: &Route) -> String {
-    format!("{} {} (route {}){}", route.prefix(), route.hop, route.place, marked(&route.faults))
+    format!("{} {} {} (route {}){}", route.prefix(), route.hop, route.origin, route.place, marked(&route.faults))
 }
 
 fn marked(faults: &[String]) -> String {

@@ -1,25 +1,23 @@
-//! The route table of the host bsdi: filled, walked, asked, and changed in trials.
+//! The route table of the host bsdi: filled, walked, asked, changed in trials, and told what a neighbour has learned.
 
 use std::net::Ipv4Addr;
 
-use rishavand::{words_for, Hop, Pool, Prefix, Refusal, Route};
+use rishavand::{words_for, Hop, Pool, Prefix, Refusal, Route, LAST_METRIC};
 
 const LE0: u32 = 0;
 const SL0: u32 = 1;
 const LO0: u32 = 2;
 const GATEWAY: Ipv4Addr = Ipv4Addr::new(140, 252, 13, 33);
+const BY_GATEWAY: Hop = Hop::Via {
+    port: LE0,
+    gateway: GATEWAY,
+};
 
 fn bsdi() -> [Route; 11] {
     let direct = |address: [u8; 4], length, port| {
         Route::new(Prefix::new(address, length), Hop::Direct { port })
     };
-    let via = |prefix| {
-        let hop = Hop::Via {
-            port: LE0,
-            gateway: GATEWAY,
-        };
-        Route::new(prefix, hop)
-    };
+    let via = |prefix| Route::new(prefix, BY_GATEWAY);
     [
         via(Prefix::DEFAULT),
         Route::new(Prefix::new([127, 0, 0, 0], 8), Hop::Reject),
@@ -43,11 +41,55 @@ fn lookup(pool: &Pool, destination: [u8; 4]) {
     }
 }
 
+fn tell(answer: Result<(), Refusal>) {
+    match answer {
+        Ok(()) => println!("done"),
+        Err(refusal) => println!("{refusal}"),
+    }
+}
+
 fn list(pool: &Pool, capacity: u32) {
     println!("routes {} of {capacity}", capacity - pool.room());
     for route in pool.routes() {
         println!("{route}");
     }
+}
+
+fn trials(pool: &mut Pool) -> Result<(), Refusal> {
+    println!("a trial without the default route, dropped");
+    let mut trial = pool.trial()?;
+    trial.delete(Prefix::DEFAULT)?;
+    lookup(&trial, [10, 1, 2, 3]);
+    drop(trial);
+    lookup(pool, [10, 1, 2, 3]);
+
+    println!("a trial with 127.0.0.0/24, stepped back once and kept");
+    let mut trial = pool.trial()?;
+    trial.add(Route::new(Prefix::new([127, 0, 0, 0], 24), BY_GATEWAY))?;
+    trial.delete(Prefix::DEFAULT)?;
+    trial.step_back()?;
+    trial.keep();
+    lookup(pool, [127, 0, 0, 2]);
+    lookup(pool, [127, 0, 2, 3]);
+    lookup(pool, [10, 1, 2, 3]);
+    Ok(())
+}
+
+fn neighbour(pool: &mut Pool) -> Result<(), Refusal> {
+    println!("what a neighbour says of 127.0.0.0/24, which is fixed, and of 10.0.0.0/8");
+    let fixed = Prefix::new([127, 0, 0, 0], 24);
+    tell(pool.change(Route::learned(fixed, BY_GATEWAY, 3)));
+    tell(pool.delete_learned(fixed));
+    pool.delete(fixed)?;
+    let ten = Prefix::new([10, 0, 0, 0], 8);
+    tell(pool.add(Route::learned(ten, BY_GATEWAY, LAST_METRIC + 1)));
+    tell(pool.add(Route::learned(ten, BY_GATEWAY, 3)));
+    lookup(pool, [10, 1, 2, 3]);
+    tell(pool.change(Route::learned(ten, BY_GATEWAY, 2)));
+    lookup(pool, [10, 1, 2, 3]);
+    tell(pool.delete_learned(ten));
+    lookup(pool, [10, 1, 2, 3]);
+    Ok(())
 }
 
 fn main() -> Result<(), Refusal> {
@@ -62,32 +104,8 @@ fn main() -> Result<(), Refusal> {
     lookup(&pool, [127, 0, 0, 2]);
     lookup(&pool, [140, 252, 13, 60]);
     lookup(&pool, [10, 1, 2, 3]);
-
-    println!("a trial without the default route, dropped");
-    let mut trial = pool.trial()?;
-    trial.delete(Prefix::DEFAULT)?;
-    lookup(&trial, [10, 1, 2, 3]);
-    drop(trial);
-    lookup(&pool, [10, 1, 2, 3]);
-
-    println!("a trial with 127.0.0.0/24, stepped back once and kept");
-    let mut trial = pool.trial()?;
-    let hop = Hop::Via {
-        port: LE0,
-        gateway: GATEWAY,
-    };
-    trial.add(Route::new(Prefix::new([127, 0, 0, 0], 24), hop))?;
-    trial.delete(Prefix::DEFAULT)?;
-    trial.step_back()?;
-    trial.keep();
-    lookup(&pool, [127, 0, 0, 2]);
-    lookup(&pool, [127, 0, 2, 3]);
-    lookup(&pool, [10, 1, 2, 3]);
+    trials(&mut pool)?;
     list(&pool, capacity);
-
-    match pool.add(Route::new(Prefix::new([10, 0, 0, 0], 8), Hop::Reject)) {
-        Ok(()) => println!("added"),
-        Err(refusal) => println!("{refusal}"),
-    }
-    Ok(())
+    tell(pool.add(Route::new(Prefix::new([10, 0, 0, 0], 8), Hop::Reject)));
+    neighbour(&mut pool)
 }

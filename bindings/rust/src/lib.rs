@@ -2,7 +2,8 @@
 //!
 //! The table is a pool of words that the caller lends. It is proved that each call ends, stays inside the pool and answers
 //! what the rules say, whatever the pool holds; this crate adds what the types of Rust can: a [`Pool`] is lent whole and is
-//! known to be sound, a [`Route`] can't be a kind of hop that there is not, and a [`Trial`] that is not kept is backed out of.
+//! known to be sound, a [`Route`] can't be a kind of hop that there is not or have an origin that is none, and a [`Trial`] that
+//! is not kept is backed out of.
 //!
 //! ```
 //! use rishavand::{words_for, Hop, Pool, Prefix, Route};
@@ -27,7 +28,9 @@ mod raw;
 mod trial;
 mod types;
 
-pub use limits::{size, words_for, LARGEST_CAPACITY, LAST_PORT, MOST_CHANGES, MOST_WORDS};
+pub use limits::{
+    size, words_for, LARGEST_CAPACITY, LAST_METRIC, LAST_PORT, MOST_CHANGES, MOST_WORDS,
+};
 pub use pool::{Pool, Routes};
 pub use trial::Trial;
-pub use types::{mask_length, Hop, Prefix, Refusal, Route};
+pub use types::{mask_length, Hop, Origin, Prefix, Refusal, Route};

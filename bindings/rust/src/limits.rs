@@ -11,6 +11,9 @@ pub const MOST_CHANGES: u32 = 64;
 /// The last port; the first is 0.
 pub const LAST_PORT: u32 = 15;
 
+/// The last metric of a learned route; the first is 1.
+pub const LAST_METRIC: u32 = 15;
+
 /// The words that are enough for any capacity.
 pub const MOST_WORDS: usize = size(LARGEST_CAPACITY);
 

@@ -2,9 +2,9 @@
 
 use std::net::Ipv4Addr;
 
-use crate::raw;
+use crate::raw::{self, RouteWords};
 use crate::trial::Trial;
-use crate::types::{Prefix, Refusal, Route};
+use crate::types::{Origin, Prefix, Refusal, Route};
 
 /// A sound table in words that are lent whole: nobody else reads or writes them while it lives.
 #[derive(Debug)]
@@ -38,28 +38,49 @@ impl<'a> Pool<'a> {
         self.words
     }
 
-    /// One route more. Refused: 3, 4, 5, 8, 7.
+    /// One route more, by hand or learned as its origin says. Refused: 3, 4, 16, 5, 8, 7.
     pub fn add(&mut self, route: Route) -> Result<(), Refusal> {
         let (kind, port, gateway) = route.hop.words();
         let (address, length) = (route.prefix.word(), route.prefix.length);
         // SAFETY: `call` hands over the lent words.
-        self.call(|p, n| unsafe { raw::rishavand_add(p, n, address, length, kind, port, gateway) })
+        self.call(|p, n| match route.origin {
+            Origin::Fixed => unsafe {
+                raw::rishavand_add(p, n, address, length, kind, port, gateway)
+            },
+            Origin::Learned { metric } => unsafe {
+                raw::rishavand_learned_add(p, n, address, length, kind, port, gateway, metric)
+            },
+        })
     }
 
-    /// Another hop for the route of a prefix. Refused: 3, 4, 6, 8.
+    /// Another hop and origin for the route of a prefix: a fixed one by hand, for any route, which is fixed from then on; a
+    /// learned one for a learned route alone. Refused: 3, 4, 16, 6, 15, 8.
     pub fn change(&mut self, route: Route) -> Result<(), Refusal> {
         let (kind, port, gateway) = route.hop.words();
         let (address, length) = (route.prefix.word(), route.prefix.length);
         // SAFETY: as in `add`.
-        self.call(|p, n| unsafe {
-            raw::rishavand_change(p, n, address, length, kind, port, gateway)
+        self.call(|p, n| match route.origin {
+            Origin::Fixed => unsafe {
+                raw::rishavand_change(p, n, address, length, kind, port, gateway)
+            },
+            Origin::Learned { metric } => unsafe {
+                raw::rishavand_learned_change(p, n, address, length, kind, port, gateway, metric)
+            },
         })
     }
 
-    /// One route less. Refused: 3, 6, 8.
+    /// One route less, by hand: whatever its origin. Refused: 3, 6, 8.
     pub fn delete(&mut self, prefix: Prefix) -> Result<(), Refusal> {
         // SAFETY: as in `add`.
         self.call(|p, n| unsafe { raw::rishavand_delete(p, n, prefix.word(), prefix.length) })
+    }
+
+    /// One learned route less. Refused: 3, 6, 15, 8.
+    pub fn delete_learned(&mut self, prefix: Prefix) -> Result<(), Refusal> {
+        // SAFETY: as in `add`.
+        self.call(|p, n| unsafe {
+            raw::rishavand_learned_delete(p, n, prefix.word(), prefix.length)
+        })
     }
 
     /// The route with the longest prefix that matches a destination, if any does.
@@ -135,7 +156,7 @@ impl<'a> Pool<'a> {
 
     fn ask(
         &self,
-        f: impl FnOnce(*const u32, usize, *mut [u32; 5]) -> u32,
+        f: impl FnOnce(*const u32, usize, *mut RouteWords) -> u32,
     ) -> Result<Route, Refusal> {
         ask(self.words, f)
     }
@@ -144,9 +165,9 @@ impl<'a> Pool<'a> {
 /// A call that shows a route.
 fn ask(
     words: &[u32],
-    f: impl FnOnce(*const u32, usize, *mut [u32; 5]) -> u32,
+    f: impl FnOnce(*const u32, usize, *mut RouteWords) -> u32,
 ) -> Result<Route, Refusal> {
-    let mut route = [0; 5];
+    let mut route = RouteWords::default();
     Refusal::check(f(words.as_ptr(), words.len(), &mut route))?;
     Ok(Route::from_words(route))
 }

@@ -35,6 +35,11 @@ impl<'p, 'a> Trial<'p, 'a> {
         self.pool.delete(prefix)
     }
 
+    /// As [`Pool::delete_learned`], and recorded.
+    pub fn delete_learned(&mut self, prefix: Prefix) -> Result<(), Refusal> {
+        self.pool.delete_learned(prefix)
+    }
+
     /// Takes back the newest change; the trial stays open. Refused: 12.
     pub fn step_back(&mut self) -> Result<(), Refusal> {
         // SAFETY: `call` hands over the lent words.

@@ -1,11 +1,11 @@
-//! Prefixes, hops, routes and refusals, and how they are printed: as in the table's listing.
+//! Prefixes, hops, origins, routes and refusals, and how they are printed: as in the table's listing.
 
 use std::error::Error;
 use std::fmt;
 use std::net::Ipv4Addr;
 
-use crate::limits::{LARGEST_CAPACITY, LAST_PORT, MOST_CHANGES};
-use crate::raw;
+use crate::limits::{LARGEST_CAPACITY, LAST_METRIC, LAST_PORT, MOST_CHANGES};
+use crate::raw::{self, RouteWords};
 
 /// An address and how many of its bits count. Whether the table may hold it is the table's to say: see
 /// [`Refusal::BadPrefix`].
@@ -38,7 +38,9 @@ impl Prefix {
     /// [`Refusal::BadPrefix`], in its order. [`mask_length`] tells at once whether there is a hole.
     pub fn with_mask(address: impl Into<Ipv4Addr>, mask: impl Into<Ipv4Addr>) -> Prefix {
         // SAFETY: the function takes and answers plain numbers.
-        Prefix::new(address, unsafe { raw::rishavand_masked(mask.into().into()) })
+        Prefix::new(address, unsafe {
+            raw::rishavand_masked(mask.into().into())
+        })
     }
 
     pub(crate) fn word(self) -> u32 {
@@ -81,19 +83,48 @@ impl Hop {
     }
 }
 
-/// A prefix and its hop.
+/// Where a route came from.
+#[derive(Clone, Copy, Debug, PartialEq, Eq, Hash)]
+pub enum Origin {
+    /// It was put there by hand, and a learner leaves it alone.
+    Fixed,
+    /// It was learned, and leads so far away: a metric from 1 to [`LAST_METRIC`].
+    Learned { metric: u32 },
+}
+
+impl Origin {
+    const LEARNED: u32 = 1;
+}
+
+/// A prefix, its hop and its origin.
 #[derive(Clone, Copy, Debug, PartialEq, Eq, Hash)]
 pub struct Route {
     pub prefix: Prefix,
     pub hop: Hop,
+    pub origin: Origin,
 }
 
 impl Route {
+    /// A fixed route.
     pub fn new(prefix: Prefix, hop: Hop) -> Route {
-        Route { prefix, hop }
+        Route {
+            prefix,
+            hop,
+            origin: Origin::Fixed,
+        }
     }
 
-    pub(crate) fn from_words([address, length, kind, port, gateway]: [u32; 5]) -> Route {
+    /// A learned route.
+    pub fn learned(prefix: Prefix, hop: Hop, metric: u32) -> Route {
+        Route {
+            prefix,
+            hop,
+            origin: Origin::Learned { metric },
+        }
+    }
+
+    pub(crate) fn from_words(words: RouteWords) -> Route {
+        let [address, length, kind, port, gateway, origin, metric] = words;
         let hop = match kind {
             Hop::DIRECT => Hop::Direct { port },
             Hop::VIA => Hop::Via {
@@ -103,7 +134,12 @@ impl Route {
             // The archive is proved to write 0, 1 or 2.
             _ => Hop::Reject,
         };
-        Route::new(Prefix::new(address, length), hop)
+        let prefix = Prefix::new(address, length);
+        match origin {
+            Origin::LEARNED => Route::learned(prefix, hop, metric),
+            // The archive is proved to write 0 or 1.
+            _ => Route::new(prefix, hop),
+        }
     }
 }
 
@@ -139,10 +175,14 @@ pub enum Refusal {
     NoMatch = 13,
     /// There is no further route.
     NoFurther = 14,
+    /// A learned change or delete is aimed at a fixed route.
+    RouteIsFixed = 15,
+    /// A learned metric of 0 or above [`LAST_METRIC`].
+    BadMetric = 16,
 }
 
 impl Refusal {
-    const ALL: [Refusal; 14] = [
+    const ALL: [Refusal; 16] = [
         Refusal::BadCapacity,
         Refusal::ShortBuffer,
         Refusal::BadPrefix,
@@ -157,6 +197,8 @@ impl Refusal {
         Refusal::NothingStanding,
         Refusal::NoMatch,
         Refusal::NoFurther,
+        Refusal::RouteIsFixed,
+        Refusal::BadMetric,
     ];
 
     /// The number of the refusal.
@@ -171,7 +213,7 @@ impl Refusal {
         }
         let refusal = Refusal::ALL.into_iter().find(|r| r.number() == number);
         // The archive is proved to answer one of these numbers; another archive is not this table.
-        Err(refusal.expect("a number from 0 to 14"))
+        Err(refusal.expect("a number from 0 to 16"))
     }
 
     fn reason(self, f: &mut fmt::Formatter<'_>) -> fmt::Result {
@@ -195,6 +237,10 @@ impl Refusal {
             Refusal::NothingStanding => write!(f, "trial open, nothing standing"),
             Refusal::NoMatch => write!(f, "no route matches"),
             Refusal::NoFurther => write!(f, "no further route"),
+            Refusal::RouteIsFixed => {
+                write!(f, "a learned change or delete aimed at a fixed route")
+            }
+            Refusal::BadMetric => write!(f, "learned metric 0 or above {LAST_METRIC}"),
         }
     }
 }
@@ -215,9 +261,18 @@ impl fmt::Display for Hop {
     }
 }
 
+impl fmt::Display for Origin {
+    fn fmt(&self, f: &mut fmt::Formatter<'_>) -> fmt::Result {
+        match self {
+            Origin::Fixed => write!(f, "fixed 0"),
+            Origin::Learned { metric } => write!(f, "learned {metric}"),
+        }
+    }
+}
+
 impl fmt::Display for Route {
     fn fmt(&self, f: &mut fmt::Formatter<'_>) -> fmt::Result {
-        write!(f, "{} {}", self.prefix, self.hop)
+        write!(f, "{} {} {}", self.prefix, self.hop, self.origin)
     }
 }
 

@@ -228,10 +228,7 @@ fn a_mask_with_a_hole_is_refused_by_each_call() {
     let holed = Prefix::with_mask([10, 0, 0, 0], [255, 0, 255, 0]);
     let mut words = vec![0; words_for(4).unwrap()];
     let mut pool = Pool::fresh(&mut words, 4).unwrap();
-    let route = Route {
-        prefix: holed,
-        hop: Hop::Reject,
-    };
+    let route = Route::new(holed, Hop::Reject);
     assert_eq!(pool.add(route), Err(Refusal::BadPrefix));
     assert_eq!(pool.change(route), Err(Refusal::BadPrefix));
     assert_eq!(pool.delete(holed), Err(Refusal::BadPrefix));
@@ -240,7 +237,7 @@ fn a_mask_with_a_hole_is_refused_by_each_call() {
 #[test]
 fn a_refusal_says_its_number() {
     assert_eq!(Refusal::BadCapacity.number(), 1);
-    assert_eq!(Refusal::NoFurther.number(), 14);
+    assert_eq!(Refusal::BadMetric.number(), 16);
     assert_eq!(Refusal::NoTrial.to_string(), "11: no trial is open");
     assert_eq!(
         Refusal::BadCapacity.to_string(),
