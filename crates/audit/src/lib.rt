@@ -6,6 +6,8 @@
 // since its addresses can't have both a 0 and a 1 at the bit. So the tree takes at most 33 sides that are fine and one way down,
 // fewer than 70 C + 40 steps from place to place. The marks take 2 C steps and the changes 64. Taking the changes back takes at
 // most 2,016 comparisons with a newer change and 64 searches of at most 65 steps.
+#![tactic(auto)]
+
 mod head;
 
 ghost use Rattle.std.specs.Prelude.{◌≡◌, true, ◌↔◌};

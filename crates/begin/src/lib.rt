@@ -1,4 +1,6 @@
 // The call that makes a fresh table in a lent buffer.
+#![tactic(auto)]
+
 mod begin;
 
 pub use begin::fresh;

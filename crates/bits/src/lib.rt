@@ -1,5 +1,7 @@
 // The bits of an address, the bit at which two part, and masks. Bit 0 is the highest. What each
 // function answers is a definition of specs/, which holds for any width; here the width is 32.
+#![tactic(auto)]
+
 ghost use Rattle.std.specs.Prelude.{◌≡◌, ◌≤◌, ◌<◌};
 ghost use Rattle.bits.specs.Address.{first, bit, clear, Part};
 ghost use Rattle.bits.specs.Answer.{mask_answer};
@@ -39,7 +41,7 @@ pub fn parting(x: u32, y: u32) -> u32
 }
 
 // What an old-format mask says.
-#[derive(Drop)]
+#[derive(Clone, Copy)]
 pub enum MaskAnswer {
     // So many ones, and zeros after them.
     Length(u32),

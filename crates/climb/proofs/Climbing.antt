@@ -35,7 +35,7 @@ use Rattle.search.proofs.Bare.{bare_way, bare_follows, bare_longest}
 use Rattle.search.proofs.Led.{led_not_empty, led_not_damaged, led_chain, led_bare, led_longest}
 use Rattle.search.proofs.Chain.{Behind, route_there, prefix_there, behind_start, behind_next, behind_last, behind_length}
 use Rattle.search.proofs.Left.{left_good}
-use Rattle.search.proofs.Rise.{side_of, WayHeld, part_held, rise_top, rise_at}
+use Rattle.search.proofs.Rising.{side_of, WayHeld, part_held, rise_top, rise_at}
 
 module _ {P : Type 0} (L : Layout P) where
   -- ---- along the routes of one leaf

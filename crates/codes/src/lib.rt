@@ -1,4 +1,6 @@
 // How the C interface says a hop, an origin and a route in numbers, and how an answer goes out.
+#![tactic(auto)]
+
 ghost use Rattle.std.specs.Prelude.{◌≡◌, [], ◌∷◌};
 ghost use Rattle.route.specs.Means.{hop_of, origin_of, route_of};
 ghost use Rattle.route.specs.Answers.{found_number, found_value};
@@ -44,7 +46,7 @@ pub fn route_from(
 }
 
 // A hop in words. What its kind does not use is 0, so that equal hops have equal words.
-#[derive(Drop)]
+#[derive(Clone, Copy)]
 struct HopWords {
     kind: u32,
     port: u32,
@@ -74,7 +76,7 @@ fn hop_words(hop: Hop) -> HopWords
 }
 
 // An origin in words: 0 fixed, 1 learned; and the metric, 0 where there is none.
-#[derive(Drop)]
+#[derive(Clone, Copy)]
 struct OriginWords {
     origin: u32,
     metric: u32,

@@ -1,4 +1,6 @@
 // A line of text taken as a command, and nothing done about it.
+#![tactic(auto)]
+
 mod asked;
 mod line;
 mod phrase;

@@ -17,7 +17,7 @@ fn last(line: &[u8], end: usize, command: Command) -> Command {
 }
 
 // The commands that take one number or one address.
-#[derive(Drop)]
+#[derive(Clone, Copy)]
 enum Single {
     Fresh,
     Words,

@@ -6,35 +6,35 @@ use numeral::{Fault, Number, Taken, address, after, decimal, take_address, take_
 use route::{Hop, Length, Metric, Origin, Payload, Port, Prefix, Route};
 
 // A prefix and the place behind it in the line, or what is wrong.
-#[derive(Drop)]
+#[derive(Clone, Copy)]
 pub(crate) enum TakenPrefix {
     Value(Prefix, usize),
     Wrong(Fault),
 }
 
 // A hop and the place behind it, or what is wrong.
-#[derive(Drop)]
+#[derive(Clone, Copy)]
 enum TakenHop {
     Value(Hop, usize),
     Wrong(Fault),
 }
 
 // An origin and the place behind it, or what is wrong.
-#[derive(Drop)]
+#[derive(Clone, Copy)]
 enum TakenOrigin {
     Value(Origin, usize),
     Wrong(Fault),
 }
 
 // A hop and an origin and the place behind them, or what is wrong.
-#[derive(Drop)]
+#[derive(Clone, Copy)]
 enum TakenPayload {
     Value(Payload, usize),
     Wrong(Fault),
 }
 
 // A route and the place behind it, or what is wrong.
-#[derive(Drop)]
+#[derive(Clone, Copy)]
 pub(crate) enum TakenRoute {
     Value(Route, usize),
     Wrong(Fault),
@@ -76,7 +76,7 @@ pub(crate) fn take_prefix(line: &[u8], from: usize) -> TakenPrefix {
     if text.len() == 0 {
         return TakenPrefix::Wrong(Fault::TooFewWords);
     }
-    let slash = bytes::scan::find(text, 0, text.len(), b'/');
+    let slash = numeral::find(text, 0, b'/');
     if slash < text.len() {
         with_length(text, slash, next)
     } else {

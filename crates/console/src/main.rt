@@ -1,5 +1,7 @@
 // Commands on standard input, one a line, and an answer line for each on standard output. The pool is inside the program: its
 // words are 0 before the first fresh, which is a damaged pool.
+#![tactic(auto)]
+
 fn main() {
     let mut words = [0u32; pool::MOST_WORDS + 16];
     session::run(&mut words, true);

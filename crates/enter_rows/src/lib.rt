@@ -1,4 +1,6 @@
 // The rows of words that a route put in writes: each function writes just the words that its row names.
+#![tactic(auto)]
+
 ghost use Rattle.std.specs.Prelude.{◌≡◌, ◌+◌, ◌≤◌, ◌<◌, length};
 ghost use Rattle.route.specs.Means.{route_of};
 ghost use Rattle.pool.specs.Layout as layout;
@@ -59,7 +61,7 @@ fn write_inner(pool: &mut [u32], capacity: usize, place: Place, index: u32, left
 }
 
 // What goes left and what goes right.
-#[derive(Drop)]
+#[derive(Clone, Copy)]
 struct Both(u32, u32);
 
 // The side that the address takes at a bit gets its leaf.

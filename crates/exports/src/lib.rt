@@ -1,5 +1,7 @@
 // The table for C and Rust: each public call under a plain name, with numbers in place of the table's types. A slice comes as
 // a pointer and a count of words, an array as a pointer. `include/rishavand.h` is this page in C.
+#![tactic(auto)]
+
 mod beginning;
 mod changing;
 mod learning;

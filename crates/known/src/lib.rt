@@ -1,5 +1,7 @@
 // The changes in a pool that is known to be sound: judged, and carried out where they may be. A call that tests the pool, and a row
 // of calls that tests it once, both come through here.
+#![tactic(auto)]
+
 ghost use Rattle.model.specs.Call as call;
 ghost use Rattle.route.specs.Means.{prefix_of, hand_is, route_of};
 ghost use Rattle.route.specs.Answers.{done_number};

@@ -1,4 +1,6 @@
 // The rows of words that a route taken out, or another payload, writes: each function writes just the words that its row names.
+#![tactic(auto)]
+
 ghost use Rattle.std.specs.Prelude.{◌≡◌, ◌+◌, ◌≤◌, ◌<◌, length};
 ghost use Rattle.route.specs.Means.{payload_of};
 ghost use Rattle.pool.specs.Layout as layout;

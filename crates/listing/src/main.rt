@@ -1,4 +1,6 @@
 // The listing of the table that the commands on standard input leave, and nothing else.
+#![tactic(auto)]
+
 fn main() {
     let mut words = [0u32; pool::MOST_WORDS + 16];
     session::run(&mut words, false);

@@ -202,7 +202,7 @@ module _ {P : Type 0} (L : Layout P) (c : ℕ) (ws : List ℕ) (h : Hand) (p : P
   guarded_at i b f e s m ci = e ∙ spotted_at i _ (find p s.routes) (means_spotted L c ws p (spot.At i) f s m ci)
 
   pub guarded_absent : Finds L c ws p spot.Absent → TellsGuarded L c ws h p false
-  guarded_absent f s m ci = spotted_absent _ (find p s.routes) (means_spotted L c ws p spot.Absent f s m ci)
+  guarded_absent f s m ci = spotted_absent (routes_used m.tree) (find p s.routes) (means_spotted L c ws p spot.Absent f s m ci)
 
   pub guarded_damaged : Finds L c ws p spot.Damaged → TellsGuarded L c ws h p false
   guarded_damaged f s m ci = absurd (means_spotted L c ws p spot.Damaged f s m ci)

@@ -33,6 +33,7 @@ module _ {P : Type 0} (R : Rules P) where
   -- ---- every route obeys, said of each that is held
 
   pub obeys_held : (l : List (Route P)) → AllObey R l → (q : Route P) → Held q l → Obeys R q.prefix q.payload
+  obeys_held [] a q h = elim h [ ]
   obeys_held (x ∷ xs) a q (inl e) = subst (λ (z : Route P). Obeys R z.prefix z.payload) (sym e) a.0
   obeys_held (x ∷ xs) a q (inr h) = obeys_held xs a.1 q h
 

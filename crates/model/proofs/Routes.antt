@@ -17,6 +17,7 @@ module _ {P : Type 0} where
   after_trans p q (x ∷ xs) h a = (before_trans p q x.prefix h a.0, after_trans p q xs h a.1)
 
   pub held_after : (p : Prefix) (r : Route P) (l : List (Route P)) → AllAfter p l → Held r l → Before p r.prefix
+  held_after p r [] a h = elim h [ ]
   held_after p r (x ∷ xs) a (inl e) = rw e a.0
   held_after p r (x ∷ xs) a (inr h) = held_after p r xs a.1 h
 
@@ -44,6 +45,7 @@ module _ {P : Type 0} where
 
   -- and what is held is found
   pub held_find : (r : Route P) (l : List (Route P)) → InOrder l → Held r l → find r.prefix l ≡ some r
+  held_find r [] o h = elim h [ ]
   held_find r (x ∷ xs) o (inl e) = rw (true_same r.prefix x.prefix (ap (λ (y : Route P). y.prefix) e)) (ap some (sym e))
   held_find r (x ∷ xs) o (inr h) =
       rw (behind_not_same r.prefix x.prefix (held_after x.prefix r xs o.0 h)) (held_find r xs o.1 h)

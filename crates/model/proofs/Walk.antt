@@ -68,6 +68,7 @@ module _ {P : Type 0} where
 
   -- and where there is none, nothing comes after it
   pub next_none : (p : Prefix) (l : List (Route P)) → next_after p l ≡ none → (q : Route P) → Held q l → Before p q.prefix → ⊥
+  next_none p [] e q h b = elim h [ ]
   next_none p (x ∷ xs) e q h b = go (before p x.prefix) refl h (next_none p xs)
     where
       go : (c : Bool) → before p x.prefix ≡ c → (q ≡ x) ⊎ Held q xs → (next_after p xs ≡ none → (q : Route P) → Held q xs → Before p q.prefix → ⊥) → ⊥

@@ -4,25 +4,25 @@ ghost use Rattle.numeral.specs.Octets.{OctetAt, NextAt, ReadAddress};
 ghost use Rattle.numeral.specs.Words.{TakenAs, given_of};
 ghost use Rattle.numeral.specs.declared.wrong.Fault as fault;
 
-use super::word::{after, word_at};
+use super::word::{after, find, word_at};
 use super::wrong::Fault;
 
 // A number that was read, or none.
-#[derive(Drop)]
+#[derive(Clone, Copy)]
 pub enum Number {
     Value(u32),
     Bad,
 }
 
 // A number and the place behind it in the line, or what is wrong.
-#[derive(Drop)]
+#[derive(Clone, Copy)]
 pub enum Taken {
     Value(u32, usize),
     Wrong(Fault),
 }
 
 // An address as far as it was read, and where its last octet ends.
-#[derive(Drop)]
+#[derive(Clone, Copy)]
 enum Octets {
     Value(u32, usize),
     Bad,
@@ -65,7 +65,7 @@ fn octet(s: &[u8], from: usize, before: u32) -> Octets
     requires { (from ≤ length s.now) × (before ≤ 16777215) }
     ensures { OctetAt s.now from before result }
 {
-    let end = bytes::scan::find(s, from, s.len(), b'.');
+    let end = find(s, from, b'.');
     let Number::Value(n) = decimal(&s[from..end]) else {
         return Octets::Bad;
     };

@@ -1,5 +1,20 @@
 ghost use Rattle.std.specs.Prelude.{◌≡◌, ◌+◌, ◌≤◌, length, drop};
-ghost use Rattle.numeral.specs.Words.{is_blank, leading, from_word, word_at, Behind, uncommented_of};
+ghost use Rattle.numeral.specs.Words.{index_of, is_blank, leading, from_word, word_at, Behind, uncommented_of};
+
+// Where a byte stands first, from a place on, or the end.
+pub fn find(s: &[u8], from: usize, b: u8) -> usize
+    requires { from ≤ length s.now }
+    ensures { result ≡ from + index_of b (drop from s.now) }
+{
+    let mut i = from;
+    while i < s.len() {
+        if s[i] == b {
+            return i;
+        }
+        i += 1;
+    }
+    s.len()
+}
 
 fn is_blank(b: u8) -> bool
     ensures { result ≡ is_blank b }
@@ -52,6 +67,6 @@ pub fn after(line: &[u8], from: usize) -> usize
 pub fn uncommented(line: &[u8]) -> &[u8]
     ensures { result.now ≡ uncommented_of line.now }
 {
-    let end = bytes::scan::find(line, 0, line.len(), b'#');
+    let end = find(line, 0, b'#');
     &line[0..end]
 }

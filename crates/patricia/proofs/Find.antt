@@ -1,6 +1,6 @@
 -- Exact search by the tree: the bits of a prefix's address lead to the one leaf that can hold it.
 use Prim.Native.Nat.{ℕ}
-use mathlib.Core.Path.{◌≡◌, refl, sym, ap, ◌∙◌}
+use mathlib.Core.Path.{subst, ◌≡◌, refl, sym, ap, ◌∙◌}
 use mathlib.Core.Bool.{cond}
 use mathlib.Core.List.{List, [], ◌∷◌}
 use mathlib.Core.Logic.{⊎_elim, inl, inr}
@@ -48,7 +48,12 @@ module _ {N P : Type 0} where
   -- it is a leaf of the tree
   pub reached_under : (W x : ℕ) (t : Tree N P) → Under (reached W x t) t
   reached_under W x (leaf a es) = refl
-  reached_under W x (node n b l r) = ⊎_elim (λ z. rw z (inl (reached_under W x l))) (λ o. rw o (inr (reached_under W x r))) (side W b x)
+  reached_under W x (node n b l r) =
+      let Here = λ (q : ℕ). Under (toward q (reached W x l) (reached W x r)) (node n b l r) in
+      ⊎_elim
+      (λ z. subst Here (sym z) (inl (reached_under W x l)))
+      (λ o. subst Here (sym o) (inr (reached_under W x r)))
+      (side W b x)
 
   -- and as good as any
   pub reached_good : (W x : ℕ) (t : Tree N P) → Good W t → LeafObeys W (reached W x t) (entries_at W x t)

@@ -37,6 +37,7 @@ module _ {P : Type 0} where
 
   -- well formed as entries, well formed as routes
   formed_hung : (W a : ℕ) (es : List (Entry P)) → AllWellFormed W a es → AllFormed W (hung a es)
+  formed_hung W a [] f q h = elim h [ ]
   formed_hung W a (e ∷ es) f q (inl p) = rw p (formed W (route_of a e).prefix f.0)
   formed_hung W a (e ∷ es) f q (inr h) = formed_hung W a es f.1 q h
 
@@ -144,6 +145,7 @@ module _ {N P : Type 0} where
 
   -- a held route's address is under the tree
   pub held_under : (q : Route P) (t : Tree N P) → Held q (routes t) → Under q.prefix.address t
+  held_under q (leaf a []) h = elim h [ ]
   held_under q (leaf a (e ∷ es)) (inl p) = ap (λ (r : Route P). r.prefix.address) p
   held_under q (leaf a (e ∷ es)) (inr h) = held_under q (leaf a es) h
   held_under q (node n b l r) h = ⊎_elim (λ k. inl (held_under q l k)) (λ k. inr (held_under q r k)) ((held_append q (routes l) (routes r)).0 h)

@@ -67,6 +67,7 @@ module _ {P : Type 0} where
 
   -- an entry that is shorter is a shorter route
   shorter_held : (a n : ℕ) (q : Route P) (es : List (Entry P)) → Shorter n es → Held q (hung a es) → q.prefix.length < n
+  shorter_held a n q [] s h = elim h [ ]
   shorter_held a n q (e ∷ es) s (inl p) = rw p s.0
   shorter_held a n q (e ∷ es) s (inr h) = shorter_held a n q es s.1 h
 

@@ -1,10 +1,12 @@
 // What a command does to the words of a pool, before any of it is told.
+#![tactic(auto)]
+
 ghost use Rattle.perform.specs.Performs.{Pokes, Performs};
 
 use command::Command;
 
 // What is to be told of a command: the number of a call, that a poke was outside the buffer, or nothing that a change has to say.
-#[derive(Drop)]
+#[derive(Clone, Copy)]
 pub enum Changed {
     Number(u32),
     Outside,

@@ -1,4 +1,6 @@
 // Which places are used. The first word of a place is its mark: 0 while the place is free.
+#![tactic(auto)]
+
 ghost use Rattle.std.specs.Prelude.{◌≡◌, ◌<◌};
 ghost use Rattle.pool.specs.Ipv4.{ipv4};
 ghost use Rattle.pool.specs.Fit.{Fit};
@@ -7,7 +9,7 @@ ghost use Rattle.places.specs.Marks.{mark_of, is_used, tally, Spare, FreePlace};
 use pool::Place;
 
 // The two sorts of places.
-#[derive(Drop)]
+#[derive(Clone, Copy)]
 pub enum Sort {
     Route,
     Inner,

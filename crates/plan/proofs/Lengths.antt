@@ -19,10 +19,12 @@ module _ {P : Type 0} where
   -- ---- a length, and the prefix that it makes with the address
 
   held_has : (q : Route P) (a : ℕ) (es : List (Entry (Seat P))) → Held q (hung a (bare_entries es)) → (q.prefix.address ≡ a) × Has q.prefix.length es
+  held_has q a [] h = elim h [ ]
   held_has q a (e ∷ es) (inl p) = (ap (λ (r : Route P). r.prefix.address) p, inl (sym (ap (λ (r : Route P). r.prefix.length) p)))
   held_has q a (e ∷ es) (inr h) = let v = held_has q a es h in (v.0, inr v.1)
 
   has_held : (a n : ℕ) (es : List (Entry (Seat P))) → Has n es → (q : Route P) × Held q (hung a (bare_entries es)) × (q.prefix ≡ record { address = a; length = n })
+  has_held a n [] h = elim h [ ]
   has_held a n (e ∷ es) (inl p) = (route_of a (bare_entry e), inl refl, λ i. record { address = a; length = p i })
   has_held a n (e ∷ es) (inr h) = let v = has_held a n es h in (v.0, inr v.1, v.2)
 
@@ -55,6 +57,7 @@ module _ {P : Type 0} where
   has_behind n (x ∷ xs) ys l (inr h) = has_behind n xs ys l.1 h
 
   shorter_has : (m n : ℕ) (es : List (Entry (Seat P))) → Shorter m es → Has n es → n < m
+  shorter_has m n [] s h = elim h [ ]
   shorter_has m n (e ∷ es) s (inl p) = omega (arith, s.0)
   shorter_has m n (e ∷ es) s (inr h) = shorter_has m n es s.1 h
 
@@ -65,6 +68,7 @@ module _ {P : Type 0} where
   -- it is the first of those that are not longer
   pub has_first : (n : ℕ) (es : List (Entry (Seat P))) → NotLonger n es → LongestFirst es → Has n es
       → (e : Entry (Seat P)) × (xs : List (Entry (Seat P))) × (es ≡ e ∷ xs) × (e.length ≡ n)
+  has_first n [] l s h = elim h [ ]
   has_first n (e ∷ es) l s (inl p) = (e, es, refl, p)
   has_first n (e ∷ es) l s (inr h) = absurd (omega (arith, l, shorter_has e.length n es s.0 h))
 

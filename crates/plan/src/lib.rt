@@ -1,4 +1,6 @@
 // Where in a sound pool a route goes in or comes out, by reading only.
+#![tactic(auto)]
+
 mod cells;
 mod plan;
 

@@ -12,7 +12,7 @@ use route::{Length, Prefix};
 use search::{End, Steps};
 
 // Where a route goes in.
-#[derive(Drop)]
+#[derive(Clone, Copy)]
 pub enum PutPlan {
     // The table is empty: the route becomes its root.
     First,
@@ -23,7 +23,7 @@ pub enum PutPlan {
 }
 
 // Where a route comes out, and the place that it leaves.
-#[derive(Drop)]
+#[derive(Clone, Copy)]
 pub enum TakePlan {
     // Other routes of its address stay: the cell that links to it.
     Link(usize, Place),
@@ -35,7 +35,7 @@ pub enum TakePlan {
 }
 
 // The cell that links to a route, and its place.
-#[derive(Drop)]
+#[derive(Clone, Copy)]
 pub enum HeldAt {
     At(usize, Place),
     Nowhere,

@@ -31,6 +31,7 @@ module _ {P : Type 0} (L : Layout P) (c : ℕ) (ws : List ℕ) where
 
   -- the length in a place of a chain is below what bounds the chain
   chain_shorter : (a link n : ℕ) (es : List (Entry (Seat P))) → Chain L c ws a link es → Shorter n (bare_entries es) → (i : ℕ) → Among i (chain_places es) → (held_prefix L ws i).length < n
+  chain_shorter a link n [] h s i o = elim o [ ]
   chain_shorter a link n (e ∷ es) h s i (inl p) = subst (λ (x : ℕ). (held_prefix L ws x).length < n) (sym p) (subst (λ (x : ℕ). x < n) (sym h.1.length_there) s.0)
   chain_shorter a link n (e ∷ es) h s i (inr k) = chain_shorter a (next_at L ws e.payload.place) n es h.2 s.1 i k
 
@@ -42,6 +43,7 @@ module _ {P : Type 0} (L : Layout P) (c : ℕ) (ws : List ℕ) where
   )
 
   chain_address : (a link : ℕ) (es : List (Entry (Seat P))) → Chain L c ws a link es → (i : ℕ) → Among i (chain_places es) → (held_prefix L ws i).address ≡ a
+  chain_address a link [] h i no = elim no [ ]
   chain_address a link (e ∷ es) h i (inl p) = ap (λ (x : ℕ). (held_prefix L ws x).address) p ∙ h.1.address_there
   chain_address a link (e ∷ es) h i (inr k) = chain_address a (next_at L ws e.payload.place) es h.2 i k
 

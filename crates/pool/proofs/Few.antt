@@ -67,6 +67,7 @@ all_among n xs d h l i b = go (among_or_not i xs)
 
 -- the list less one that is in it
 less : (x : ℕ) (xs : List ℕ) → Among x xs → (ys : List ℕ) × (length xs ≡ suc (length ys)) × ((i : ℕ) → Among i xs → (i ≡ x → ⊥) → Among i ys)
+less x [] h = elim h [ ]
 less x (y ∷ ys) (inl e) = (ys, refl, λ i h n. ⊎_elim (λ f. absurd (n (f ∙ sym e))) (λ k. k) h)
 less x (y ∷ ys) (inr h) = let w = less x ys h in (y ∷ w.0, ap suc w.1, λ i k n. ⊎_elim (λ f. inl f) (λ g. inr (w.2 i g n)) k)
 

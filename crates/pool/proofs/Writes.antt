@@ -35,6 +35,7 @@ On i v [] = ⊥
 On i v (x ∷ xs) = ((i ≡ x.0) × (v ≡ x.1) × Off i xs) ⊎ On i v xs
 
 pub word_on : (i v : ℕ) (xs : List Write) (ws : List ℕ) → i < length ws → On i v xs → word (writes xs ws) i ≡ v
+word_on i v [] ws l h = elim h [ ]
 word_on i v (x ∷ xs) ws l (inl h) =
     sym (word_off i xs _ h.2) ∙ subst (λ (n : ℕ). word (lib.ListN.set ws n x.1) i ≡ v) h.0 (get_or-set_same ws i x.1 0 l ∙ sym h.1)
 word_on i v (x ∷ xs) ws l (inr h) = word_on i v xs _ (subst (λ (n : ℕ). i < n) (sym (length-set ws x.0 x.1)) l) h
@@ -44,5 +45,6 @@ on_right i v [] ys h = h
 on_right i v (x ∷ xs) ys h = inr (on_right i v xs ys h)
 
 pub on_left : (i v : ℕ) (xs ys : List Write) → On i v xs → Off i ys → On i v (xs ++ ys)
+on_left i v [] ys h o = elim h [ ]
 on_left i v (x ∷ xs) ys (inl h) o = inl (h.0, h.1, off_append i xs ys h.2 o)
 on_left i v (x ∷ xs) ys (inr h) o = inr (on_left i v xs ys h o)

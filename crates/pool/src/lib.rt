@@ -1,4 +1,6 @@
 // The lent words: where each thing stands, one reader and one writer for each, and what a sound pool means.
+#![tactic(auto)]
+
 mod layout;
 mod link;
 mod readers;

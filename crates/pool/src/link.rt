@@ -2,11 +2,11 @@ ghost use Rattle.std.specs.Prelude.{◌≡◌, ◌≤◌};
 ghost use Rattle.pool.specs.Link.{link_from, to_route, to_inner};
 
 // A place in the pool: a route place, or an inner place.
-#[derive(Drop)]
+#[derive(Clone, Copy)]
 pub struct Place(pub usize);
 
 // What a link leads to.
-#[derive(Drop)]
+#[derive(Clone, Copy)]
 pub enum Link {
     Nothing,
     Route(Place),

@@ -1,4 +1,6 @@
 // A run of the public calls that a reader can follow: what the theorems about runs say of it is a list that is known.
+#![tactic(auto)]
+
 ghost use Rattle.std.specs.Prelude.{◌≤◌, ◌≡◌, true, length};
 ghost use Rattle.model.specs.Ipv4 as model;
 ghost use Rattle.model.specs.State.{State};

@@ -1,4 +1,6 @@
 // The answers to commands as text on standard output, by reading the words only.
+#![tactic(auto)]
+
 mod routes;
 mod show;
 mod text;

@@ -6,7 +6,7 @@ use super::hop::Route;
 use super::prefix::Length;
 
 // Why a call says no.
-#[derive(Drop)]
+#[derive(Clone, Copy)]
 pub enum Refusal {
     BadCapacity,
     ShortBuffer,
@@ -53,7 +53,7 @@ impl Refusal {
 }
 
 // What a lookup or a step of the walk answers.
-#[derive(Drop)]
+#[derive(Clone, Copy)]
 pub enum Found {
     Route(Route),
     Refused(Refusal),
@@ -72,7 +72,7 @@ impl Found {
 }
 
 // How much room is left.
-#[derive(Drop)]
+#[derive(Clone, Copy)]
 pub enum Room {
     Left(u32),
     Refused(Refusal),
@@ -91,7 +91,7 @@ impl Room {
 }
 
 // The length of a mask.
-#[derive(Drop)]
+#[derive(Clone, Copy)]
 pub enum Measured {
     Length(Length),
     Refused(Refusal),
@@ -110,7 +110,7 @@ impl Measured {
 }
 
 // A change made, or not.
-#[derive(Drop)]
+#[derive(Clone, Copy)]
 pub enum Done {
     Yes,
     Refused(Refusal),

@@ -6,14 +6,14 @@ use super::origin::Origin;
 use super::prefix::Prefix;
 
 // A port number.
-#[derive(Drop)]
+#[derive(Clone, Copy)]
 pub struct Port(pub u32);
 
 // The last port that there is.
 pub const LAST_PORT: u32 = 15;
 
 // Where a route leads: straight out of a port, by a gateway behind a port, or nowhere.
-#[derive(Drop)]
+#[derive(Clone, Copy)]
 pub enum Hop {
     Direct(Port),
     Via(Port, u32),
@@ -40,7 +40,7 @@ impl Hop {
 }
 
 // What a route holds besides its prefix.
-#[derive(Drop)]
+#[derive(Clone, Copy)]
 pub struct Payload {
     pub hop: Hop,
     pub origin: Origin,
@@ -62,7 +62,7 @@ impl Payload {
 }
 
 // Every route holds its hop, and where it came from.
-#[derive(Drop)]
+#[derive(Clone, Copy)]
 pub struct Route {
     pub prefix: Prefix,
     pub payload: Payload,

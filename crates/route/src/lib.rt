@@ -1,5 +1,7 @@
 // The table's own types. A port, a place in the pool and a prefix length are three kinds of number that can't be
 // mixed; the place stands with the pool.
+#![tactic(auto)]
+
 mod answer;
 mod hop;
 mod origin;

@@ -4,14 +4,14 @@ ghost use Rattle.model.specs.Ipv4.{good_metric, hand_of};
 ghost use Rattle.route.specs.Means.{origin_of, hand_is};
 
 // How far away a learned route leads.
-#[derive(Drop)]
+#[derive(Clone, Copy)]
 pub struct Metric(pub u32);
 
 // The last metric that a learned route may have; the first is 1.
 pub const LAST_METRIC: u32 = 15;
 
 // Where a route came from: the keeper fixed it, or it was learned.
-#[derive(Drop)]
+#[derive(Clone, Copy)]
 pub enum Origin {
     Fixed,
     Learned(Metric),
@@ -46,7 +46,7 @@ impl Origin {
 }
 
 // Whose hand makes a change: the keeper's own, by a plain call, or a learner's.
-#[derive(Drop)]
+#[derive(Clone, Copy)]
 pub enum Hand {
     Plain,
     Learner,

@@ -7,7 +7,7 @@ ghost use Rattle.route.specs.Means.{prefix_of};
 use super::answer::{Measured, measure};
 
 // A prefix length: how many bits of the address count.
-#[derive(Drop)]
+#[derive(Clone, Copy)]
 pub struct Length(pub u32);
 
 impl Length {
@@ -23,7 +23,7 @@ impl Length {
 }
 
 // The prefix of a route: an address and how much of it counts.
-#[derive(Drop)]
+#[derive(Clone, Copy)]
 pub struct Prefix {
     pub address: u32,
     pub length: Length,

@@ -5,4 +5,4 @@ pub mod Led
 pub mod Chain
 pub mod Spots
 pub mod Left
-pub mod Rise
+pub mod Rising

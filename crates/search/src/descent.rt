@@ -11,7 +11,7 @@ use pool::{Link, Place};
 use route::Prefix;
 
 // What stands at a link of the tree: a leaf's first route, or an inner place and its bit.
-#[derive(Drop)]
+#[derive(Clone, Copy)]
 pub enum Seen {
     Leaf(Place),
     Inner(Place, u32),
@@ -62,7 +62,7 @@ pub fn side_at(pool: &[u32], capacity: usize, place: Place, index: u32, destinat
 }
 
 // Where a way ends: at a leaf's first route; nowhere, since the pool has no route; or where the words are no tree.
-#[derive(Drop)]
+#[derive(Clone, Copy)]
 pub enum End {
     Leaf(Place),
     Empty,
@@ -73,7 +73,7 @@ pub enum End {
 pub type Steps = [usize; 32];
 
 // The inner places passed, and where it ended.
-#[derive(Drop)]
+#[derive(Clone, Copy)]
 pub struct Way {
     pub inner: Steps,
     pub depth: usize,

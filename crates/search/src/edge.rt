@@ -8,7 +8,7 @@ use super::descent::{Seen, Steps, see};
 use pool::Place;
 
 // Where the left sides end: at a leaf's first route, or where the words are no tree.
-#[derive(Drop)]
+#[derive(Clone, Copy)]
 pub enum Edge {
     Leaf(Place),
     Damaged,
@@ -38,7 +38,7 @@ pub fn leftmost(pool: &[u32], capacity: usize, start: u32) -> Edge
 }
 
 // Where the climb goes on: at a level of the way, or nowhere.
-#[derive(Drop)]
+#[derive(Clone, Copy)]
 pub enum Rise {
     At(usize),
     Top,

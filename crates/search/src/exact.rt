@@ -10,7 +10,7 @@ use pool::{Link, Place};
 use route::{Length, Prefix};
 
 // What comes behind a route of a leaf: another one, the end, or what no sound pool has.
-#[derive(Drop)]
+#[derive(Clone, Copy)]
 pub enum Hung {
     Route(Place),
     End,
@@ -41,7 +41,7 @@ pub fn follow(pool: &[u32], capacity: usize, place: Place, length: Length) -> Hu
 }
 
 // Where a prefix is held.
-#[derive(Drop)]
+#[derive(Clone, Copy)]
 pub enum Spot {
     At(Place),
     Absent,
@@ -62,7 +62,7 @@ impl Spot {
 }
 
 // Which route of a leaf is looked for: the one that has the prefix, or the first that comes after it.
-#[derive(Drop)]
+#[derive(Clone, Copy)]
 pub enum Wanted {
     Same,
     After,

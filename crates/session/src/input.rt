@@ -8,7 +8,7 @@ type Line = [u8; 201];
 
 // How far the input was read: the bytes of the line that is being read, its number, and whether more may come. A length of
 // 202 says that the line has more bytes than there is room for.
-#[derive(Drop)]
+#[derive(Clone, Copy)]
 struct Input {
     length: usize,
     number: u64,

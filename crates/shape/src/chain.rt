@@ -7,14 +7,14 @@ use pool::{Link, Place};
 use route::{Length, Prefix};
 
 // One route of a chain: bad, or good, with the link to the next and its length, below which the next must stay.
-#[derive(Drop)]
+#[derive(Clone, Copy)]
 pub enum Hung {
     Bad,
     Next { link: u32, bound: Length },
 }
 
 // The routes of one address.
-#[derive(Drop)]
+#[derive(Clone, Copy)]
 pub enum ChainAudit {
     Bad,
     Fine { address: u32, routes: usize },

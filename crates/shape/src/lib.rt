@@ -1,4 +1,6 @@
 // Whether the words are one tree of routes as document 01 describes it.
+#![tactic(auto)]
+
 mod chain;
 mod tree;
 

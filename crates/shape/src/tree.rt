@@ -9,7 +9,7 @@ use pool::{Link, Place};
 use route::Prefix;
 
 // A tree's lowest and highest address, and how many places it takes.
-#[derive(Drop)]
+#[derive(Clone, Copy)]
 pub struct Span {
     pub least: u32,
     pub greatest: u32,
@@ -18,14 +18,14 @@ pub struct Span {
 }
 
 // The tree at a link.
-#[derive(Drop)]
+#[derive(Clone, Copy)]
 pub enum TreeAudit {
     Bad,
     Fine(Span),
 }
 
 // The tree at the root.
-#[derive(Drop)]
+#[derive(Clone, Copy)]
 pub enum RootAudit {
     Bad,
     Fine { routes: usize, inners: usize },

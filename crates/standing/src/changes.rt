@@ -5,7 +5,7 @@ ghost use Rattle.pool.specs.Fit.{Fit};
 ghost use Rattle.standing.specs.Changes.{PayloadFine, ChangeFine, ChangesFine, ThereSays, TakenSays, BackSays};
 
 // A change taken back: not possible, or so many routes are left.
-#[derive(Drop)]
+#[derive(Clone, Copy)]
 pub enum Taken {
     Bad,
     Held(usize),

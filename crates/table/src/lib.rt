@@ -1,4 +1,6 @@
 // The public calls: each tests, then reads or changes the pool. None asks anything of its caller.
+#![tactic(auto)]
+
 mod change;
 
 pub use begin::fresh;

@@ -1,4 +1,6 @@
 // The rows of words that a trial writes: its head and its records.
+#![tactic(auto)]
+
 ghost use Rattle.std.specs.Prelude.{◌≡◌, ◌-◌, ◌≤◌, ◌<◌, [], ◌∷◌, length};
 ghost use Rattle.route.specs.Means.{prefix_of, payload_of};
 ghost use Rattle.pool.specs.Layout as layout;

@@ -1,10 +1,12 @@
 // What lent words are before anything is done to them: which capacity they say, and whether they are a sound pool.
+#![tactic(auto)]
+
 ghost use Rattle.pool.specs.Ipv4.{ipv4};
 ghost use Rattle.promise.specs.Trees.{tree};
 ghost use Rattle.verdict.specs.Own.{OwnRight, TestedRight};
 
 // The capacity that a pool says, where it is one that a table may have and the words are enough for it.
-#[derive(Drop)]
+#[derive(Clone, Copy)]
 pub enum Own {
     Capacity(usize),
     Short,
@@ -32,7 +34,7 @@ pub fn own_words(pool: &[u32]) -> Own
 }
 
 // Whether a pool is sound, and its capacity if it is.
-#[derive(Drop)]
+#[derive(Clone, Copy)]
 pub enum Verdict {
     Sound(usize),
     NotSound,

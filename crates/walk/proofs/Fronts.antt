@@ -25,7 +25,7 @@ use Rattle.search.specs.declared.edge.Edge as edge
 use Rattle.search.proofs.Bare.{bare_way}
 use Rattle.search.proofs.Chain.{route_there}
 use Rattle.walk.proofs.Around.{first_append, later}
-use Rattle.search.proofs.Rise.{side_of, WayHeld, rise_top, rise_at}
+use Rattle.search.proofs.Rising.{side_of, WayHeld, rise_top, rise_at}
 
 module _ {P : Type 0} (L : Layout P) where
   -- the first route stands in the leftmost leaf

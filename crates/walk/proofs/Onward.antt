@@ -35,7 +35,7 @@ use Rattle.search.proofs.Bare.{bare_way, bare_plug}
 use Rattle.search.proofs.Led.{led_not_empty, led_not_damaged, led_chain, led_bare, led_longest}
 use Rattle.search.proofs.Chain.{prefix_there}
 use Rattle.search.proofs.Spots.{seek_next}
-use Rattle.search.proofs.Rise.{PartHeld, part_held}
+use Rattle.search.proofs.Rising.{PartHeld, part_held}
 use Rattle.walk.proofs.Around.{first_else, next_nothing, later, shares_same, Shares, next_around}
 use Rattle.walk.proofs.Fronts.{right_exact, right_loose}
 use Rattle.walk.proofs.Rejoin.{Named, named_link, rejoins, rejoined_shares}

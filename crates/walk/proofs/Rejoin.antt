@@ -20,7 +20,7 @@ use Rattle.pool.specs.Holds.{Seat, Seated, bare, Holds}
 use Rattle.search.specs.Down.{Kept}
 use Rattle.search.proofs.Bare.{bare_way, bare_plug}
 use Rattle.walk.proofs.Around.{Shares, shares_before}
-use Rattle.search.proofs.Rise.{StepHeld, WayHeld, part_held, kept_tail, follows_tail}
+use Rattle.search.proofs.Rising.{StepHeld, WayHeld, part_held, kept_tail, follows_tail}
 
 module _ {P : Type 0} where
   -- a step put back around a tree

@@ -1,0 +1,20 @@
+-- `bits::mask_length` meets its contract. The machine counts all ones of a number, which are those of its 32 bits.
+use native.Mathlib.Omega.{arith}
+use borrow.Author.Tests.{eq-eqb, ne_eqb}
+use Rattle.bits.specs.Mask.{good_mask, mask_length}
+use Rattle.bits.specs.Answer.{mask_answer}
+use Rattle.bits.proofs.Mask.{ones_all, ones_trailing}
+use Rattle.bits.proofs.mask_length.Goals as goal
+
+pub overflow_add-ones : goal.overflow_add-ones
+overflow_add-ones c =
+    let m = c.args.mask in
+    omega (arith, ones_all 32 m c.ranges.mask.fits, ones_trailing 32 m)
+
+pub returns-then-ones-mask-eq32 : goal.returns-then-ones-mask-eq32
+unfolding mask_answer good_mask mask_length
+returns-then-ones-mask-eq32 c = simp (ones_all 32 c.args.mask c.ranges.mask.fits, eq-eqb _ _ c.if-ones-mask-eq32.true)
+
+pub returns-else-ones-mask-eq32 : goal.returns-else-ones-mask-eq32
+unfolding mask_answer good_mask mask_length
+returns-else-ones-mask-eq32 c = simp (ones_all 32 c.args.mask c.ranges.mask.fits, ne_eqb _ _ c.if-ones-mask-eq32.false)

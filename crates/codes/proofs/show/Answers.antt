@@ -1,0 +1,15 @@
+-- An answer is a refusal, whose number is returned (`out_refused`), or a route, whose words are written (`out_shown`).
+use mathlib.Core.Path.{refl, ap}
+use Rattle.route.specs.Answers.{found_number, found_value}
+use Rattle.codes.proofs.Coded.{out_refused, out_shown}
+use Rattle.codes.proofs.show.Goals as goal
+
+pub returns-in_default : goal.returns-in_default
+returns-in_default c =
+    let told = c.enum_told-1.given in
+    out_refused told.0.0 (ap found_number told.1) (ap found_value told.1) c.number.ensures (refl, refl)
+
+pub returns : goal.returns
+returns c =
+    let told = c.answer-1.given in
+    out_shown _ (ap found_number told.1) (ap found_value told.1) c.words_of-words.ensures (refl, refl)

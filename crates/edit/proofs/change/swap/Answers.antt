@@ -1,0 +1,24 @@
+-- The route is held at a place (`held_not` where it is not), and the three words of its hop are written there: `swap_done`.
+use mathlib.Core.Path.{subst}
+use native.Mathlib.Omega.{arith}
+use Rattle.pool.specs.Ipv4.{ipv4}
+use Rattle.pool.proofs.Ipv4.{laid4}
+use Rattle.plan.specs.Planned.{HeldRight}
+use Rattle.edit.proofs.Changed.{swap_done, held_not}
+use Rattle.edit.proofs.change.swap.Goals as goal
+
+pub swap_payload-requires : goal.swap_payload-requires
+swap_payload-requires c =
+    let u = c.requires.fit in
+    let v = (subst (HeldRight ipv4 _ _ _) c.in-At.is c.held_at.ensures).in_pool in
+    (omega (arith, u.1, v.1), omega (arith, u.0, v.1))
+
+pub returns-in-At : goal.returns-in-At
+returns-in-At c =
+    let held = subst (HeldRight ipv4 _ _ _) c.in-At.is c.held_at.ensures in
+    λ s p. swap_done ipv4 laid4 _ _ _ s p _ _ _ _ held c.swap_payload.ensures
+
+pub returns-in-Nowhere : goal.returns-in-Nowhere
+returns-in-Nowhere c =
+    let held = subst (HeldRight ipv4 _ _ _) c.in-Nowhere.is c.held_at.ensures in
+    λ s p. absurd (held_not ipv4 laid4 _ _ _ s p held)

@@ -1,0 +1,11 @@
+-- The numbers make the learned route that the call names, `table::add` keeps its promise, and the code is its number: `as_call`.
+use mathlib.Core.Path.{ap}
+use Rattle.model.specs.Call.{add}
+use Rattle.pool.specs.Ipv4.{ipv4}
+use Rattle.promise.specs.Trees.{tree}
+use Rattle.exports.proofs.Answers.{as_call}
+use Rattle.exports.proofs.learning.rishavand_learned_add.Goals as goal
+
+pub returns : goal.returns
+returns c =
+    as_call (tree ipv4) (ap add c.route_from-route.ensures) c.number.ensures c.add-done.ensures

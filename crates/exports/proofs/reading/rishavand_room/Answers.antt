@@ -1,0 +1,17 @@
+-- What `table::room_left` answers is a refusal, whose number is returned (`out_refused`), or a number that is written (`out_shown`).
+use mathlib.Core.Path.{refl, ap}
+use Rattle.route.specs.Answers.{room_number, room_value}
+use Rattle.codes.proofs.Coded.{out_refused, out_shown}
+use Rattle.exports.proofs.reading.rishavand_room.Goals as goal
+
+pub returns-in_default : goal.returns-in_default
+returns-in_default c =
+    let told = c.enum_told-1.given in
+    let promise = c.room_left-answer.ensures in
+    out_refused told.0.0 (ap room_number told.1) (ap room_value told.1) c.number.ensures promise
+
+pub returns : goal.returns
+returns c =
+    let told = c.answer-1.given in
+    let promise = c.room_left-answer.ensures in
+    out_shown _ (ap room_number told.1) (ap room_value told.1) refl promise

@@ -1,0 +1,8 @@
+-- The blanks and then the word are passed, so the bytes between are the word: `word_there`.
+use Rattle.numeral.proofs.Wording.{word_there}
+use Rattle.numeral.proofs.word.word_at.Goals as goal
+
+pub returns : goal.returns
+returns c =
+    let args = c.args in
+    word_there args.line.now args.from _ _ after-start-of.start_of_lem.ensures.1 c.pass-end.ensures.1

@@ -1,0 +1,57 @@
+use Prim.Native.Nat.{ℕ, ◌+◌, ◌<◌}
+use mathlib.Core.Path.{◌≡◌, refl, sym, ap, subst, ◌∙◌}
+use mathlib.Core.Logic.{inl, inr}
+use native.Mathlib.Omega.{arith}
+use Rattle.model.specs.Prefix.{Prefix}
+use Rattle.patricia.specs.Obeys.{Shorter}
+use Rattle.pool.specs.Layout.{prefix_at}
+use Rattle.pool.specs.Ipv4.{ipv4}
+use Rattle.search.specs.Chain.{HungRight}
+use Rattle.plan.proofs.ChainAt.{chain_start, chain_here, chain_next, chain_last, chain_damaged}
+use Rattle.plan.proofs.cells.chain_cell.Goals as goal
+use Rattle.plan.proofs.cells.chain_cell.Goals.{After-follow, After-prefix_at-held}
+
+-- the length that was read
+held : (c : After-prefix_at-held) → c.prefix_at-held.result.length.0 ≡ (λ (seat : ℕ). (prefix_at ipv4 c.args.pool.now (seat + ipv4.prefix_offset)).length) (ipv4.seat c.loop-length.place.0)
+held c = ap (λ (p : Prefix). p.length) c.prefix_at-held.ensures ∙ ap ((λ (seat : ℕ). (prefix_at ipv4 c.args.pool.now (seat + ipv4.prefix_offset)).length)) c.seat.ensures
+
+-- it is longer
+passed : (c : After-follow) → c.args.length.0 < (λ (seat : ℕ). (prefix_at ipv4 c.args.pool.now (seat + ipv4.prefix_offset)).length) (ipv4.seat c.loop-length.place.0)
+passed c = omega (arith, (let held' : c.prefix_at-held.result.length.0 ≡ (λ (seat : ℕ). (prefix_at ipv4 c.args.pool.now (seat + ipv4.prefix_offset)).length) (ipv4.seat c.loop-length.place.0) = ap (λ (p : Prefix). p.length) c.prefix_at-held.ensures ∙ ap ((λ (seat : ℕ). (prefix_at ipv4 c.args.pool.now (seat + ipv4.prefix_offset)).length)) c.seat.ensures in held'))
+
+-- the cell behind it
+below : (c : After-follow) → c.seat-cell.result + ipv4.next_offset ≡ (ipv4.seat c.loop-length.place.0) + ipv4.next_offset
+below c = ap (λ (n : ℕ). n + ipv4.next_offset) c.seat-cell.ensures
+
+pub loop-length-init : goal.loop-length-init
+loop-length-init c = (c.requires.first_lt_capacity, inl refl, chain_start ipv4 _ _ _ _ _)
+
+pub returns-then-held-length : goal.returns-then-held-length
+returns-then-held-length c =
+    let inv = c.loop-length.inv in
+    chain_here ipv4 _ _ _ _ _ _ _ inv.2 inv.1 (omega (arith, held (goal.at.returns-then-held-length c).After-prefix_at-held))
+
+pub loop-length-smaller : goal.loop-length-smaller
+loop-length-smaller c =
+    let next = subst (HungRight ipv4 _ _ _ _) c.in-Route.is c.follow.ensures in
+    omega (arith, held (goal.at.loop-length-smaller c).After-prefix_at-held)
+
+pub loop-length-preserved : goal.loop-length-preserved
+loop-length-preserved c =
+    let next = subst (HungRight ipv4 _ _ _ _) c.in-Route.is c.follow.ensures in
+    let loop = c.loop-length in
+    let all = chain_next ipv4 _ _ _ _ _ _ _ loop.inv.2 _ (below (goal.at.loop-length-preserved c).After-follow) (passed (goal.at.loop-length-preserved c).After-follow) _ next.1 in
+    (next.0, inr (loop.place.0, loop.inv.0, below (goal.at.loop-length-preserved c).After-follow), all)
+
+pub returns-in-End : goal.returns-in-End
+returns-in-End c =
+    let none = subst (HungRight ipv4 _ _ _ _) c.in-End.is c.follow.ensures in
+    let inv = c.loop-length.inv in
+    chain_last ipv4 _ _ _ _ _ _ _ inv.2 _ (below (goal.at.returns-in-End c).After-follow) (passed (goal.at.returns-in-End c).After-follow) inv.0 none
+
+pub returns-in-Damaged : goal.returns-in-Damaged
+returns-in-Damaged c =
+    let damage = subst (HungRight ipv4 _ _ _ _) c.in-Damaged.is c.follow.ensures in
+    let inv = c.loop-length.inv in
+    chain_damaged ipv4 _ _ _ _ _ _ _ inv.2 _ (below (goal.at.returns-in-Damaged c).After-follow) (passed (goal.at.returns-in-Damaged c).After-follow) inv.0
+    (λ a es h k. damage a es h (subst (λ (n : ℕ). Shorter n es) (sym (held (goal.at.returns-in-Damaged c).After-prefix_at-held)) k))

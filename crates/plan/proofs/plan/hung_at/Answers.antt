@@ -1,0 +1,50 @@
+-- `chain_cell` finds the cell, which is in the pool. A link there to a route in the pool is `hung_route`; any other link leads to no route
+-- in the pool, which is `hung_nowhere`.
+use Prim.Native.Nat.{◌<◌}
+use mathlib.Core.Path.{◌≡◌}
+use native.Mathlib.Omega.{arith}
+use lib.ListN.{length}
+use Rattle.pool.specs.Layout.{word}
+use Rattle.pool.specs.Ipv4.{ipv4}
+use Rattle.pool.specs.Link.{to_route}
+use Rattle.pool.specs.declared.link.Link.TheVariants.{Nothing, Route, Inner}
+use Rattle.pool.proofs.Ipv4.{laid4}
+use Rattle.search.proofs.Sight.{read_as}
+use Rattle.plan.proofs.ChainAt.{cell_inside}
+use Rattle.plan.proofs.HeldPlanned.{hung_route, hung_nowhere}
+use Rattle.plan.proofs.plan.hung_at.Goals as goal
+use Rattle.plan.proofs.plan.hung_at.Goals.{After-chain_cell-cell, In-Route}
+
+-- the cell is in the pool
+inside : (c : After-chain_cell-cell) → c.chain_cell-cell.result < length c.args.pool.now
+inside c = let pre = c.requires in cell_inside ipv4 laid4 _ _ _ _ _ _ pre.0 pre.1.1 c.chain_cell-cell.ensures
+
+-- what the link was read as
+routed : (c : In-Route) → (word c.args.pool.now c.chain_cell-cell.result) ≡ to_route c.in-Route.place.0
+routed c = read_as _ _ (Route c.in-Route.place) c.link_from.ensures c.in-Route.is
+
+pub offset_bounds-pool-cell : goal.offset_bounds-pool-cell
+offset_bounds-pool-cell c = omega (arith, inside c)
+
+pub bounds-pool-cell : goal.bounds-pool-cell
+bounds-pool-cell c = inside (goal.at.bounds-pool-cell c).After-chain_cell-cell
+
+pub returns-then-place-capacity : goal.returns-then-place-capacity
+returns-then-place-capacity c =
+    let pre = c.requires in
+    hung_route ipv4 laid4 _ _ _ _ _ _ c.chain_cell-cell.ensures _ pre.0 pre.1.1 (routed (goal.at.returns-then-place-capacity c).In-Route) c.if-place-capacity.true
+
+pub returns-else-place-capacity : goal.returns-else-place-capacity
+returns-else-place-capacity c =
+    let found = c.chain_cell-cell.ensures in
+    hung_nowhere ipv4 laid4 _ _ _ _ _ _ found (λ j e l. omega (arith, routed (goal.at.returns-else-place-capacity c).In-Route))
+
+pub returns-in-Inner : goal.returns-in-Inner
+returns-in-Inner c =
+    let inner = read_as _ _ (Inner c.in-Inner.field-0) c.link_from.ensures c.in-Inner.is in
+    hung_nowhere ipv4 laid4 _ _ _ _ _ _ c.chain_cell-cell.ensures (λ j e l. omega arith)
+
+pub returns-in-Nothing : goal.returns-in-Nothing
+returns-in-Nothing c =
+    let nothing = read_as _ _ Nothing c.link_from.ensures c.in-Nothing.is in
+    hung_nowhere ipv4 laid4 _ _ _ _ _ _ c.chain_cell-cell.ensures (λ j e l. omega arith)

@@ -1,0 +1,42 @@
+use mathlib.Core.Path.{ap, subst}
+use native.Mathlib.Omega.{arith}
+use Rattle.model.specs.Ipv4.{Payload}
+use Rattle.model.specs.Routes.{Route}
+use Rattle.pool.specs.Ipv4.{ipv4}
+use Rattle.shape.specs.Chain.{HungSays}
+use Rattle.shape.specs.declared.chain.Hung.{Hung}
+use Rattle.shape.proofs.Hanging.{along_start, along_step, leaf_address, chain_bad, chain_fine}
+use Rattle.shape.proofs.chain.audit_chain.Goals as goal
+use Rattle.shape.proofs.chain.audit_chain.Goals.{In-Next}
+
+pub returns-then-capacity-first : goal.returns-then-capacity-first
+returns-then-capacity-first c a es f = omega (arith, (leaf_address ipv4 _ _ a _ es f).0)
+
+pub loop-link-init : goal.loop-link-init
+loop-link-init c = along_start ipv4 _ _ _ c.route_link-link.result
+
+pub returns-in_default : goal.returns-in_default
+returns-in_default c =
+    let address = ap (λ (r : Route Payload). r.prefix.address) c.route_at-address.ensures in
+    let bad = subst (let address = c.route_at-address.result.prefix.address in HungSays ipv4 c.args.capacity c.args.pool.now c.loop-link.link address c.loop-link.bound.0) c.in_default.is c.step.ensures in
+    let goes_on = c.loop-link-test.true in
+    chain_bad ipv4 _ _ _ _ _ _ _ _ c.route_link-link.ensures c.loop-link.invariant address goes_on bad
+
+pub overflow_add-routes : goal.overflow_add-routes
+overflow_add-routes c = omega arith
+
+-- and what it says where it found a route
+next_says : (c : In-Next) → (let address = c.route_at-address.result.prefix.address in HungSays ipv4 c.args.capacity c.args.pool.now c.loop-link.link address c.loop-link.bound.0) (Hung.Next c.in-Next.next c.in-Next.shorter)
+next_says c = subst (let address = c.route_at-address.result.prefix.address in HungSays ipv4 c.args.capacity c.args.pool.now c.loop-link.link address c.loop-link.bound.0) c.in-Next.is c.step.ensures
+
+pub loop-link-smaller : goal.loop-link-smaller
+loop-link-smaller c = let (i, f, p, q) = next_says c in omega arith
+
+pub loop-link-preserved : goal.loop-link-preserved
+loop-link-preserved c =
+    let goes_on = c.loop-link-test.true in
+    along_step ipv4 _ _ _ _ _ _ _ _ _ goes_on c.loop-link.invariant (next_says c)
+
+pub returns : goal.returns
+returns c =
+    chain_fine ipv4 _ _ _ _ _ _ _ _ c.route_link-link.ensures c.loop-link.invariant c.loop-link-test.false

@@ -1,0 +1,19 @@
+-- A root link of 0 is the empty tree: `root_none`. Else the tree at the root link is audited, and what is said of it there is what is
+-- said of the root: `root_bad` or `root_fine`.
+use mathlib.Core.Path.{refl, subst}
+use Rattle.pool.specs.Layout.{root_in}
+use Rattle.pool.specs.Ipv4.{ipv4}
+use Rattle.shape.specs.Tree.{TreeSays}
+use Rattle.shape.proofs.Grown.{root_none, root_bad, root_fine}
+use Rattle.shape.proofs.tree.audit_root.Goals as goal
+
+pub returns-then-root-eq0 : goal.returns-then-root-eq0
+returns-then-root-eq0 c = root_none ipv4 _ _ _ refl c.if-root-eq0.true
+
+pub returns-in_default : goal.returns-in_default
+returns-in_default c =
+    root_bad ipv4 _ _ _ refl c.if-root-eq0.false (subst (let args = c.args in TreeSays ipv4 args.capacity args.pool.now (root_in args.pool.now) 0) c.in_default.is c.audit_tree.ensures)
+
+pub returns : goal.returns
+returns c =
+    root_fine ipv4 _ _ _ _ _ _ _ refl (subst (let args = c.args in TreeSays ipv4 args.capacity args.pool.now (root_in args.pool.now) 0) c.in-Fine.is c.audit_tree.ensures)

@@ -1,0 +1,33 @@
+use Prim.Native.Nat.{◌-◌}
+use mathlib.Core.Path.{◌≡◌, refl, subst}
+use native.Mathlib.Omega.{arith}
+use borrow.Author.Tests.{not-true, not-false}
+use Rattle.model.proofs.Tests.{not_both}
+use Rattle.pool.specs.Ipv4.{ipv4}
+use Rattle.standing.specs.Changes.{ChangesFine}
+use Rattle.shape.proofs.Hanging.{refused}
+use Rattle.standing.proofs.Recording.{changes_more}
+use Rattle.standing.proofs.changes.changes_are_good.Goals as goal
+
+pub loop-k-init : goal.loop-k-init
+loop-k-init c = (omega arith, λ k h. absurd (omega (arith, h)))
+
+pub returns-then-not-change_is_good : goal.returns-then-not-change_is_good
+returns-then-not-change_is_good c =
+    refused (λ f. not_both (c.change_is_good.ensures.1 (f c.loop-k.k c.loop-k-test.true)) (not-true _ c.if-not-change_is_good.true))
+
+pub overflow_add-k : goal.overflow_add-k
+overflow_add-k c = omega arith
+
+pub loop-k-smaller : goal.loop-k-smaller
+loop-k-smaller c = omega arith
+
+pub loop-k-preserved : goal.loop-k-preserved
+loop-k-preserved c =
+    (omega arith, changes_more ipv4 _ _ _ c.loop-k.invariant.1 (c.change_is_good.ensures.0 (not-false _ c.if-not-change_is_good.false)))
+
+pub returns : goal.returns
+returns c =
+    let args = c.args in
+    let all : c.loop-k.k ≡ args.standing = omega arith in
+    (λ t. subst (ChangesFine ipv4 args.capacity args.pool.now) all c.loop-k.invariant.1, λ f. refl)
