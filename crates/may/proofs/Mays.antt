@@ -14,7 +14,7 @@ use Rattle.model.specs.State.{Hand, guards, State, Trial, closed, opened, is_ope
 use Rattle.model.specs.Call.{Call, add, delete, change, open_trial, keep, step_back, guarded, number, trial_full}
 use Rattle.model.proofs.Numbers.{asks, unsound_gives_9}
 use Rattle.pool.specs.Layout.{word, Layout, size, standing_in, held_payload}
-use Rattle.pool.specs.Means.{Means, TrialThere}
+use Rattle.pool.specs.Means.{Means, TrialThere, routes_used}
 use Rattle.pool.specs.declared.link.Place.{Place}
 use Rattle.pool.proofs.Local.{recorded_length}
 use Rattle.route.specs.Answers.{refusal_number}

@@ -43,7 +43,7 @@ module _ {P : Type 0} (L : Layout P) (c : ℕ) (ws : List ℕ) where
   )
 
   chain_address : (a link : ℕ) (es : List (Entry (Seat P))) → Chain L c ws a link es → (i : ℕ) → Among i (chain_places es) → (held_prefix L ws i).address ≡ a
-  chain_address a link [] h i no = elim no [ ]
+  chain_address a link [] h i x = elim x [ ]
   chain_address a link (e ∷ es) h i (inl p) = ap (λ (x : ℕ). (held_prefix L ws x).address) p ∙ h.1.address_there
   chain_address a link (e ∷ es) h i (inr k) = chain_address a (next_at L ws e.payload.place) es h.2 i k
 

@@ -73,7 +73,7 @@ module _ {P : Type 0} (L : Layout P) (c : ℕ) (ws zs : List ℕ) where
   -- ---- the places of a tree are in the pool
 
   chain_in_pool : (a link : ℕ) (es : List (Entry (Seat P))) → Chain L c ws a link es → (i : ℕ) → Among i (chain_places es) → i < c
-  chain_in_pool a link [] h i no = elim no [ ]
+  chain_in_pool a link [] h i x = elim x [ ]
   chain_in_pool a link (e ∷ es) h i (inl p) = subst (λ (n : ℕ). n < c) (sym p) h.1.in_pool
   chain_in_pool a link (e ∷ es) h i (inr k) = chain_in_pool a (next_at L ws e.payload.place) es h.2 i k
 

@@ -32,7 +32,7 @@ module _ {P : Type 0} (L : Layout P) where
   -- ---- what stands in a place of the tree is used
 
   chain_used : (c : ℕ) (ws : List ℕ) (a link : ℕ) (es : List (Entry (Seat P))) → Chain L c ws a link es → (i : ℕ) → Among i (chain_places es) → 1 ≤ kind_at L ws i
-  chain_used c ws a link [] h i no = elim no [ ]
+  chain_used c ws a link [] h i x = elim x [ ]
   chain_used c ws a link (e ∷ es) h i (inl p) = subst (λ (n : ℕ). 1 ≤ kind_at L ws n) (sym p) h.1.used
   chain_used c ws a link (e ∷ es) h i (inr k) = chain_used c ws a (next_at L ws e.payload.place) es h.2 i k
 

@@ -26,11 +26,11 @@ head_fine : (c : Else-not-head_is_good) → HeadFine ipv4 c.args.capacity c.args
 head_fine c = c.head_is_good.ensures.0 (not-false _ c.if-not-head_is_good.false)
 
 root_says : (c : In-Fine) → let args = c.args in let counts-told = c.routes-1.given.0 in RootSays ipv4 args.capacity args.pool.now (RootAudit.Fine counts-told.0 counts-told.1.0)
-root_says c = subst (RootSays ipv4 _ _) c.in-Fine.is c.audit_root.ensures
+root_says c = c.in-Fine.ensures
 
 pub returns-in_default : goal.returns-in_default
 returns-in_default c =
-    let bad = subst (RootSays ipv4 _ _) c.in_default.is c.audit_root.ensures in
+    let bad = c.in_default.ensures in
     refused (λ s. let f = sound_fine ipv4 _ _ s in bad f.tree f.root)
 
 pub returns-then-wide-routes : goal.returns-then-wide-routes

@@ -14,7 +14,7 @@ use Rattle.known.proofs.add.Goals as goal
 use Rattle.known.proofs.add.Goals.{In-Go}
 
 go : (c : In-Go) → MayRight (tree ipv4) (add (route_of c.args.route)) (c.args.pool.now) (Go c.in-Go.capacity)
-go c = subst (MayRight (tree ipv4) (add (route_of c.args.route)) (c.args.pool.now)) c.in-Go.is c.judge_add.ensures
+go c = c.in-Go.ensures
 
 pub judge_add-requires : goal.judge_add-requires
 judge_add-requires c = c.requires

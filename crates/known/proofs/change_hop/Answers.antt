@@ -14,7 +14,7 @@ use Rattle.known.proofs.change_hop.Goals as goal
 use Rattle.known.proofs.change_hop.Goals.{In-Go}
 
 go : (c : In-Go) → MayRight (tree ipv4) (change (route_of c.args.route)) (c.args.pool.now) (Go c.in-Go.capacity)
-go c = subst (MayRight (tree ipv4) (change (route_of c.args.route)) (c.args.pool.now)) c.in-Go.is c.judge_change.ensures
+go c = c.in-Go.ensures
 
 pub judge_change-requires : goal.judge_change-requires
 judge_change-requires c = c.requires

@@ -14,7 +14,7 @@ use Rattle.known.proofs.delete.Goals as goal
 use Rattle.known.proofs.delete.Goals.{In-Go}
 
 go : (c : In-Go) → MayRight (tree ipv4) (delete (hand_is c.args.by) (prefix_of c.args.prefix)) (c.args.pool.now) (Go c.in-Go.capacity)
-go c = subst (MayRight (tree ipv4) (delete (hand_is c.args.by) (prefix_of c.args.prefix)) (c.args.pool.now)) c.in-Go.is c.judge_delete.ensures
+go c = c.in-Go.ensures
 
 pub judge_delete-requires : goal.judge_delete-requires
 judge_delete-requires c = c.requires

@@ -13,7 +13,7 @@ use Rattle.known.proofs.open_trial.Goals as goal
 use Rattle.known.proofs.open_trial.Goals.{In-Go}
 
 go : (c : In-Go) → MayRight (tree ipv4) open_trial (c.args.pool.now) (Go c.in-Go.capacity)
-go c = subst (MayRight (tree ipv4) open_trial (c.args.pool.now)) c.in-Go.is c.judge_open.ensures
+go c = c.in-Go.ensures
 
 pub judge_open-requires : goal.judge_open-requires
 judge_open-requires c = c.requires

@@ -13,7 +13,7 @@ use Rattle.known.proofs.step_back.Goals as goal
 use Rattle.known.proofs.step_back.Goals.{In-Go}
 
 go : (c : In-Go) → MayRight (tree ipv4) step_back (c.args.pool.now) (Go c.in-Go.capacity)
-go c = subst (MayRight (tree ipv4) step_back (c.args.pool.now)) c.in-Go.is c.judge_step_back.ensures
+go c = c.in-Go.ensures
 
 pub judge_step_back-requires : goal.judge_step_back-requires
 judge_step_back-requires c = c.requires

@@ -1,11 +1,11 @@
 use Prim.Native.Nat.{◌-◌}
 use mathlib.Core.Path.{◌≡◌, refl, sym, ap, ◌∙◌}
-use mathlib.Core.Logic.{⊎_elim}
 use native.Mathlib.Omega.{arith}
 use Rattle.pool.specs.Ipv4.{ipv4}
 use Rattle.places.specs.Marks.{tally, is_used}
 use Rattle.places.proofs.Tally.{tally_more, tally_same, tally_le, passes, passes_not}
 use Rattle.places.proofs.used.Goals as goal
+use Rattle.places.proofs.used.Goals.{then-mark_of-ne0, else-mark_of-ne0}
 
 pub loop-at-init : goal.loop-at-init
 loop-at-init c = (omega arith, refl)
@@ -26,10 +26,10 @@ loop-at-preserved c =
     let more = tally_more (is_used ipv4 c.args.capacity c.args.pool.now c.args.sort) c.loop-at.at _ _ c.loop-at.invariant.1 in
     let same = tally_same (is_used ipv4 c.args.capacity c.args.pool.now c.args.sort) c.loop-at.at _ _ c.loop-at.invariant.1 in (
       omega arith,
-      ⊎_elim
-          (λ w. more (passes _ (λ e. w.0.taken (read ∙ e))) w.1)
-          (λ w. same (passes_not _ (sym read ∙ w.0.left)) w.1)
-          c.if-mark_of-ne0.branch,
+      elim c.if-mark_of-ne0.branch [
+        then-mark_of-ne0 w ↦ more (passes _ (λ e. w.if-mark_of-ne0.true (read ∙ e))) w.count-is
+        | else-mark_of-ne0 w ↦ same (passes_not _ (sym read ∙ w.if-mark_of-ne0.false)) w.count-is
+      ],
     )
 
 pub returns : goal.returns

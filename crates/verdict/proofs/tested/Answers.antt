@@ -14,16 +14,16 @@ use Rattle.verdict.proofs.tested.Goals as goal
 use Rattle.verdict.proofs.tested.Goals.{After-size_of-own, In-Capacity}
 
 own : (c : In-Capacity) → OwnRight (tree ipv4) (c.args.pool.now) (Capacity c.in-Capacity.capacity)
-own c = subst (OwnRight (tree ipv4) (c.args.pool.now)) c.in-Capacity.is c.own_words.ensures
+own c = c.in-Capacity.ensures
 
 -- The words that are lent are the pool's own.
 fits : (c : After-size_of-own) → Fit ipv4 c.in-Capacity.capacity (take c.size_of-own.result (c.args.pool.now))
-fits c = own_fits ipv4 laid4 _ _ _ ((let own' : OwnRight (tree ipv4) (c.args.pool.now) (Capacity c.in-Capacity.capacity) = subst (OwnRight (tree ipv4) (c.args.pool.now)) c.in-Capacity.is c.own_words.ensures in own')) c.size_of-own.ensures
+fits c = own_fits ipv4 laid4 _ _ _ ((let own' : OwnRight (tree ipv4) (c.args.pool.now) (Capacity c.in-Capacity.capacity) = c.in-Capacity.ensures in own')) c.size_of-own.ensures
 
 pub returns-in_default : goal.returns-in_default
 returns-in_default c =
     let words-in = c.args.pool.now in
-    subst (OwnRight (tree ipv4) words-in) c.in_default.is c.own_words.ensures
+    c.in_default.ensures
 
 pub size_of-own-requires : goal.size_of-own-requires
 size_of-own-requires c = omega (arith, (own c).1)

@@ -30,11 +30,11 @@ tested c = c.matches.ensures ∙ ap (λ (p : Prefix). matches 32 p (c.args.desti
 -- no route of the leaf matched
 unmatched : (c : In-End) → Unmatched ipv4 (c.args.capacity) (c.args.pool.now) (c.args.destination) c.climb.first.0
 unmatched c =
-    let last = subst (HungRight ipv4 _ _ _ _) c.in-End.is c.follow.ensures in
+    let last = c.in-End.ensures in
     match_end ipv4 _ _ _ _ _ c.loop-inner.invariant.1 (sym ((let tested' : c.matches.result ≡ matches 32 (held_prefix ipv4 (c.args.pool.now) c.loop-inner.place.0) (c.args.destination) = c.matches.ensures ∙ ap (λ (p : Prefix). matches 32 p (c.args.destination)) ((let held' : prefix_of c.route_at-route.result.prefix ≡ held_prefix ipv4 (c.args.pool.now) c.loop-inner.place.0 = ap (λ (r : Route Payload). r.prefix) c.route_at-route.ensures in held')) in tested')) ∙ c.if-matches.false) last
 
 rose : (c : In-At-unread) → Rises ipv4 (c.args.capacity) (c.args.pool.now) (c.args.destination) 1 (c.args.way.inner) c.climb.level (At (c.in-At.below))
-rose c = subst (Rises ipv4 _ _ _ _ _ _) c.in-At.is c.ascend.ensures
+rose c = c.in-At.ensures
 
 usable : (c : In-At-unread) → Usable ipv4 (c.args.capacity) (c.args.pool.now) (get_or (c.args.way.inner) (c.in-At.below) 0)
 usable c = c.climb.inv.1 (c.in-At.below) (rose c).0
@@ -55,12 +55,12 @@ loop-inner-init c = (c.climb.invariant.2, match_start ipv4 _ _ _ _)
 
 pub loop-inner-smaller : goal.loop-inner-smaller
 loop-inner-smaller c =
-    let hung = subst (HungRight ipv4 _ _ _ _) c.in-Route.is c.follow.ensures in
+    let hung = c.in-Route.ensures in
     omega (arith, length_held (goal.at.loop-inner-smaller c).After-route_at-route)
 
 pub loop-inner-preserved : goal.loop-inner-preserved
 loop-inner-preserved c =
-    let hung = subst (HungRight ipv4 _ _ _ _) c.in-Route.is c.follow.ensures in
+    let hung = c.in-Route.ensures in
     let inv = c.loop-inner.invariant in
     (hung.0, match_next ipv4 _ _ _ _ _ _ inv.1 (sym (tested (goal.at.loop-inner-preserved c).After-matches) ∙ c.if-matches.false) hung.1)
 
@@ -96,12 +96,12 @@ returns-then-matches c =
 pub returns-in-Damaged : goal.returns-in-Damaged
 returns-in-Damaged c =
     let climbing = c.climb.invariant.3 in
-    let damaged = subst (HungRight ipv4 _ _ _ _) c.in-Damaged.is c.follow.ensures in
+    let damaged = c.in-Damaged.ensures in
     climbs_broken ipv4 _ _ _ _ _ _ climbing _ _ c.loop-inner.invariant.1 (length_held (goal.at.returns-in-Damaged c).After-route_at-route) damaged
 
 pub returns-in_default : goal.returns-in_default
 returns-in_default c =
-    let top = subst (Rises ipv4 _ _ _ _ _ _) c.in_default.is c.ascend.ensures in
+    let top = c.in_default.ensures in
     climbs_top ipv4 _ _ _ _ _ _ c.climb.invariant.3 (unmatched (goal.at.returns-in_default c).In-End) top
 
 pub returns-in_default-leftmost : goal.returns-in_default-leftmost

@@ -11,36 +11,36 @@ use Rattle.edit.proofs.change.take_out.Goals as goal
 pub take_link-requires : goal.take_link-requires
 take_link-requires c =
     let u = c.requires.fit in
-    let v = (subst (TakeRight ipv4 _ _ _) c.in-Link.is c.plan_take.ensures).in_pool in
+    let v = c.in-Link.ensures.in_pool in
     (omega (arith, u.1, v.1), omega (arith, u.0, v.1), count_some ipv4 laid4 _ _ _ _ c.requires.to_take.1, v.0)
 
 pub take_leaf-requires : goal.take_leaf-requires
 take_leaf-requires c =
     let u = c.requires.fit in
-    let v = (subst (TakeRight ipv4 _ _ _) c.in-Leaf.is c.plan_take.ensures).in_pool in record { next_offset_in_bounds = (omega (arith, u.1, v.2), omega (arith, u.0, v.2), count_some ipv4 laid4 _ _ _ _ c.requires.to_take.1, v.0); inner_in_bounds = (omega (arith, u.1, v.1), u.0, omega (arith, u.0, v.1)) }
+    let v = c.in-Leaf.ensures.in_pool in record { next_offset_in_bounds = (omega (arith, u.1, v.2), omega (arith, u.0, v.2), count_some ipv4 laid4 _ _ _ _ c.requires.to_take.1, v.0); inner_in_bounds = (omega (arith, u.1, v.1), u.0, omega (arith, u.0, v.1)) }
 
 pub take_last-requires : goal.take_last-requires
 take_last-requires c =
     let u = c.requires.fit in
-    let v = (subst (TakeRight ipv4 _ _ _) c.in-Last.is c.plan_take.ensures).in_pool in
+    let v = c.in-Last.ensures.in_pool in
     (omega (arith, u.1, v), omega (arith, u.0, v), count_some ipv4 laid4 _ _ _ _ c.requires.to_take.1)
 
 pub returns-in-Link : goal.returns-in-Link
 returns-in-Link c =
-    let plan = subst (TakeRight ipv4 _ _ _) c.in-Link.is c.plan_take.ensures in
+    let plan = c.in-Link.ensures in
     λ s p. link_done ipv4 laid4 _ _ _ s p _ _ _ plan c.take_link.ensures
 
 pub returns-in-Leaf : goal.returns-in-Leaf
 returns-in-Leaf c =
-    let plan = subst (TakeRight ipv4 _ _ _) c.in-Leaf.is c.plan_take.ensures in
+    let plan = c.in-Leaf.ensures in
     λ s p. leaf_done ipv4 laid4 _ _ _ s p _ _ _ _ _ plan c.take_leaf.ensures
 
 pub returns-in-Last : goal.returns-in-Last
 returns-in-Last c =
-    let plan = subst (TakeRight ipv4 _ _ _) c.in-Last.is c.plan_take.ensures in
+    let plan = c.in-Last.ensures in
     λ s p. last_done ipv4 laid4 _ _ _ s p _ _ plan c.take_last.ensures
 
 pub returns-in-Nowhere : goal.returns-in-Nowhere
 returns-in-Nowhere c =
-    let plan = subst (TakeRight ipv4 _ _ _) c.in-Nowhere.is c.plan_take.ensures in
+    let plan = c.in-Nowhere.ensures in
     λ s p. absurd (nowhere_not ipv4 laid4 _ _ _ s p plan)

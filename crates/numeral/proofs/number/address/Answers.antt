@@ -11,19 +11,19 @@ use Rattle.numeral.proofs.number.address.Goals.{In-Value, In-Value-next_octet, I
 
 -- what was read up to each octet, and where it ends
 first : (c : In-Value) → let s = c.args.s.now in OctetAt s 0 0 (octets.Octets.Value c.in-Value.a c.in-Value.i)
-first c = subst (OctetAt _ _ _) c.in-Value.is c.octet.ensures
+first c = c.in-Value.ensures
 
 second : (c : In-Value-next_octet) → let a = c.a-1.given.0 in let s = c.args.s.now in NextAt s a.1.0 a.0 (octets.Octets.Value c.in-Value-next_octet.b c.in-Value-next_octet.j)
-second c = subst (NextAt _ _ _) c.in-Value-next_octet.is c.next_octet.ensures
+second c = c.in-Value-next_octet.ensures
 
 third : (c : In-Value-next_octet-2) → let b = c.b-1.given.0 in let s = c.args.s.now in NextAt s b.1.0 b.0 (octets.Octets.Value c.in-Value-next_octet-2.c c.in-Value-next_octet-2.k)
-third c = subst (NextAt _ _ _) c.in-Value-next_octet-2.is c.next_octet-2.ensures
+third c = c.in-Value-next_octet-2.ensures
 
 fourth : (c : In-Value-next_octet-3) → let before_last = c.c-1.given.0 in let s = c.args.s.now in NextAt s before_last.1.0 before_last.0 (octets.Octets.Value c.in-Value-next_octet-3.d c.in-Value-next_octet-3.end)
-fourth c = subst (NextAt _ _ _) c.in-Value-next_octet-3.is c.next_octet-3.ensures
+fourth c = c.in-Value-next_octet-3.ensures
 
 pub returns-in_default : goal.returns-in_default
-returns-in_default c = none_first _ (subst (OctetAt _ _ _) c.in_default.is c.octet.ensures)
+returns-in_default c = none_first _ c.in_default.ensures
 
 pub next_octet-requires : goal.next_octet-requires
 next_octet-requires c = omega (arith, first_fits _ _ _ (first c))
@@ -31,7 +31,7 @@ next_octet-requires c = omega (arith, first_fits _ _ _ (first c))
 pub returns-in_default-next_octet : goal.returns-in_default-next_octet
 returns-in_default-next_octet c =
     none_second _ _ _ (first (goal.at.returns-in_default-next_octet c).In-Value)
-    (subst (NextAt _ _ _) c.in_default-next_octet.is c.next_octet.ensures)
+    c.in_default-next_octet.ensures
 
 pub next_octet-requires-2 : goal.next_octet-requires-2
 next_octet-requires-2 c =
@@ -41,7 +41,7 @@ next_octet-requires-2 c =
 pub returns-in_default-next_octet-2 : goal.returns-in_default-next_octet-2
 returns-in_default-next_octet-2 c =
     none_third _ _ _ (first (goal.at.returns-in_default-next_octet-2 c).In-Value) _ _ (second (goal.at.returns-in_default-next_octet-2 c).In-Value-next_octet)
-    (subst (NextAt _ _ _) c.in_default-next_octet-2.is c.next_octet-2.ensures)
+    c.in_default-next_octet-2.ensures
 
 pub next_octet-requires-3 : goal.next_octet-requires-3
 next_octet-requires-3 c =
@@ -52,7 +52,7 @@ next_octet-requires-3 c =
 pub returns-in_default-next_octet-3 : goal.returns-in_default-next_octet-3
 returns-in_default-next_octet-3 c =
     none_fourth _ _ _ (first (goal.at.returns-in_default-next_octet-3 c).In-Value) _ _ (second (goal.at.returns-in_default-next_octet-3 c).In-Value-next_octet) _ _ (third (goal.at.returns-in_default-next_octet-3 c).In-Value-next_octet-2)
-    (subst (NextAt _ _ _) c.in_default-next_octet-3.is c.next_octet-3.ensures)
+    c.in_default-next_octet-3.ensures
 
 pub returns-then-end-s : goal.returns-then-end-s
 returns-then-end-s c =

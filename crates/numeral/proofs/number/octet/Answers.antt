@@ -7,15 +7,15 @@ use Rattle.numeral.proofs.number.octet.Goals as goal
 
 pub returns-in_default : goal.returns-in_default
 returns-in_default c =
-    let none = subst (ReadAs _) c.in_default.is c.decimal.ensures in
+    let none = c.in_default.ensures in
     no_octet _ _ _ c.find-end.ensures.0 none
 
 pub returns-then-n-gt255 : goal.returns-then-n-gt255
 returns-then-n-gt255 c =
-    let read = subst (ReadAs _) c.in-Value.is c.decimal.ensures in
+    let read = c.in-Value.ensures in
     high_octet _ _ _ c.find-end.ensures.0 _ read (search rules)
 
 pub returns : goal.returns
 returns c =
-    let read = subst (ReadAs _) c.in-Value.is c.decimal.ensures in
+    let read = c.in-Value.ensures in
     octet_read _ _ _ c.find-end.ensures.0 _ _ read (search rules)

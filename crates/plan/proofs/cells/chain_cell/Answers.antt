@@ -33,25 +33,25 @@ returns-then-held-length c =
 
 pub loop-length-smaller : goal.loop-length-smaller
 loop-length-smaller c =
-    let next = subst (HungRight ipv4 _ _ _ _) c.in-Route.is c.follow.ensures in
+    let next = c.in-Route.ensures in
     omega (arith, held (goal.at.loop-length-smaller c).After-prefix_at-held)
 
 pub loop-length-preserved : goal.loop-length-preserved
 loop-length-preserved c =
-    let next = subst (HungRight ipv4 _ _ _ _) c.in-Route.is c.follow.ensures in
+    let next = c.in-Route.ensures in
     let loop = c.loop-length in
     let all = chain_next ipv4 _ _ _ _ _ _ _ loop.inv.2 _ (below (goal.at.loop-length-preserved c).After-follow) (passed (goal.at.loop-length-preserved c).After-follow) _ next.1 in
     (next.0, inr (loop.place.0, loop.inv.0, below (goal.at.loop-length-preserved c).After-follow), all)
 
 pub returns-in-End : goal.returns-in-End
 returns-in-End c =
-    let none = subst (HungRight ipv4 _ _ _ _) c.in-End.is c.follow.ensures in
+    let none = c.in-End.ensures in
     let inv = c.loop-length.inv in
     chain_last ipv4 _ _ _ _ _ _ _ inv.2 _ (below (goal.at.returns-in-End c).After-follow) (passed (goal.at.returns-in-End c).After-follow) inv.0 none
 
 pub returns-in-Damaged : goal.returns-in-Damaged
 returns-in-Damaged c =
-    let damage = subst (HungRight ipv4 _ _ _ _) c.in-Damaged.is c.follow.ensures in
+    let damage = c.in-Damaged.ensures in
     let inv = c.loop-length.inv in
     chain_damaged ipv4 _ _ _ _ _ _ _ inv.2 _ (below (goal.at.returns-in-Damaged c).After-follow) (passed (goal.at.returns-in-Damaged c).After-follow) inv.0
     (λ a es h k. damage a es h (subst (λ (n : ℕ). Shorter n es) (sym (held (goal.at.returns-in-Damaged c).After-prefix_at-held)) k))

@@ -14,7 +14,7 @@ use Rattle.plan.proofs.plan.plan_take.Goals.{In-At}
 
 -- what was found
 hung : (c : In-At) → (let args = c.args in HungFrom ipv4 args.capacity args.pool.now c.cell_of-from.result c.in-Leaf.first.0 args.prefix.length.0) (At c.in-At.cell c.in-At.place)
-hung c = subst (let args = c.args in HungFrom ipv4 args.capacity args.pool.now c.cell_of-from.result c.in-Leaf.first.0 args.prefix.length.0) c.in-At.is c.hung_at.ensures
+hung c = c.in-At.ensures
 
 pub hung_at-requires : goal.hung_at-requires
 hung_at-requires c =
@@ -50,7 +50,7 @@ returns-else-next_at-ne0 c =
 
 pub returns-in-Nowhere : goal.returns-in-Nowhere
 returns-in-Nowhere c =
-    let nowhere = subst (let args = c.args in HungFrom ipv4 args.capacity args.pool.now c.cell_of-from.result c.in-Leaf.first.0 args.prefix.length.0) c.in-Nowhere.is c.hung_at.ensures in
+    let nowhere = c.in-Nowhere.ensures in
     take_nowhere ipv4 laid4 _ _ _ _ _ _ c.down-way.ensures _ c.in-Leaf.is _ c.cell_of-from.ensures nowhere
 
 pub returns-in-Empty : goal.returns-in-Empty

@@ -18,17 +18,17 @@ use Rattle.read.proofs.read.first.Goals as goal
 use Rattle.read.proofs.read.first.Goals.{After-size_of-own, In-Sound}
 
 sound : (c : In-Sound) → TestedRight (tree ipv4) (c.args.pool.now) (Sound c.in-Sound.capacity)
-sound c = subst (TestedRight (tree ipv4) (c.args.pool.now)) c.in-Sound.is c.tested.ensures
+sound c = c.in-Sound.ensures
 
 -- The words that are lent are the pool's own.
 fits : (c : After-size_of-own) → Fit ipv4 c.in-Sound.capacity (take c.size_of-own.result (c.args.pool.now))
 fits c =
-    own_fits ipv4 laid4 _ _ _ (sound_own ipv4 _ _ ((let sound' : TestedRight (tree ipv4) (c.args.pool.now) (Sound c.in-Sound.capacity) = subst (TestedRight (tree ipv4) (c.args.pool.now)) c.in-Sound.is c.tested.ensures in sound'))) c.size_of-own.ensures
+    own_fits ipv4 laid4 _ _ _ (sound_own ipv4 _ _ ((let sound' : TestedRight (tree ipv4) (c.args.pool.now) (Sound c.in-Sound.capacity) = c.in-Sound.ensures in sound'))) c.size_of-own.ensures
 
 pub returns-in_default : goal.returns-in_default
 returns-in_default c =
     let args = c.args in
-    let unsound = subst (TestedRight (tree ipv4) args.pool.now) c.in_default.is c.tested.ensures in
+    let unsound = c.in_default.ensures in
     refuses_unsound (tree ipv4) first args.pool.now refl unsound
 
 pub size_of-own-requires : goal.size_of-own-requires

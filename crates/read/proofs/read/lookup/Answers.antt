@@ -17,12 +17,12 @@ use Rattle.read.proofs.read.lookup.Goals as goal
 use Rattle.read.proofs.read.lookup.Goals.{After-size_of-own, In-Capacity}
 
 own : (c : In-Capacity) → OwnRight (tree ipv4) (c.args.pool.now) (Capacity c.in-Capacity.capacity)
-own c = subst (OwnRight (tree ipv4) (c.args.pool.now)) c.in-Capacity.is c.own_words.ensures
+own c = c.in-Capacity.ensures
 
 -- The words that are lent are the pool's own.
 fits : (c : After-size_of-own) → Fit ipv4 c.in-Capacity.capacity (take c.size_of-own.result (c.args.pool.now))
 fits c =
-    own_fits ipv4 laid4 _ _ _ ((let own' : OwnRight (tree ipv4) (c.args.pool.now) (Capacity c.in-Capacity.capacity) = subst (OwnRight (tree ipv4) (c.args.pool.now)) c.in-Capacity.is c.own_words.ensures in own')) c.size_of-own.ensures
+    own_fits ipv4 laid4 _ _ _ ((let own' : OwnRight (tree ipv4) (c.args.pool.now) (Capacity c.in-Capacity.capacity) = c.in-Capacity.ensures in own')) c.size_of-own.ensures
 
 pub size_of-own-requires : goal.size_of-own-requires
 size_of-own-requires c = omega (arith, (own c).1)
@@ -42,5 +42,5 @@ returns-in-Capacity c =
 pub returns-in-Short : goal.returns-in-Short
 returns-in-Short c =
     let args = c.args in
-    let short = subst (OwnRight (tree ipv4) args.pool.now) c.in-Short.is c.own_words.ensures in
+    let short = c.in-Short.ensures in
     record { number_is = λ s m. absurd (short (s, m)); value_is = λ s m. absurd (short (s, m)); loose = inr (inl refl) }

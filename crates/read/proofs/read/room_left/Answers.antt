@@ -13,12 +13,12 @@ use Rattle.read.proofs.read.room_left.Goals as goal
 use Rattle.read.proofs.read.room_left.Goals.{In-Sound}
 
 sound : (c : In-Sound) → TestedRight (tree ipv4) (c.args.pool.now) (Sound c.in-Sound.field-0)
-sound c = subst (TestedRight (tree ipv4) (c.args.pool.now)) c.in-Sound.is c.tested.ensures
+sound c = c.in-Sound.ensures
 
 pub returns-in_default : goal.returns-in_default
 returns-in_default c =
     let args = c.args in
-    let unsound = subst (TestedRight (tree ipv4) args.pool.now) c.in_default.is c.tested.ensures in
+    let unsound = c.in_default.ensures in
     refuses_unsound (tree ipv4) room args.pool.now refl unsound
 
 pub bounds-pool-0 : goal.bounds-pool-0

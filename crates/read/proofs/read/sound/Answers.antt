@@ -9,11 +9,11 @@ use Rattle.read.proofs.read.sound.Goals as goal
 pub returns-in-Sound : goal.returns-in-Sound
 returns-in-Sound c =
     let args = c.args in
-    let state = subst (TestedRight (tree ipv4) args.pool.now) c.in-Sound.is c.tested.ensures in
+    let state = c.in-Sound.ensures in
     (λ t. (state.0, state.1), λ s. refl)
 
 pub returns-in-NotSound : goal.returns-in-NotSound
 returns-in-NotSound c =
     let args = c.args in
-    let unsound = subst (TestedRight (tree ipv4) args.pool.now) c.in-NotSound.is c.tested.ensures in
+    let unsound = c.in-NotSound.ensures in
     (λ t. absurd (false≢true t), λ s. absurd (unsound s))

@@ -11,10 +11,10 @@ use Rattle.search.proofs.descent.down.Goals as goal
 use Rattle.search.proofs.descent.down.Goals.{In-Inner, In-Leaf}
 
 leaf_seen : (c : In-Leaf) → (SeenRight ipv4 c.args.capacity c.args.pool.now c.loop-place.link c.loop-place.lowest) (Leaf c.in-Leaf.place)
-leaf_seen c = subst (SeenRight ipv4 c.args.capacity c.args.pool.now c.loop-place.link c.loop-place.lowest) c.in-Leaf.is c.see.ensures
+leaf_seen c = c.in-Leaf.ensures
 
 inner_seen : (c : In-Inner) → (SeenRight ipv4 c.args.capacity c.args.pool.now c.loop-place.link c.loop-place.lowest) (Inner c.in-Inner.place c.in-Inner.index)
-inner_seen c = subst (SeenRight ipv4 c.args.capacity c.args.pool.now c.loop-place.link c.loop-place.lowest) c.in-Inner.is c.see.ensures
+inner_seen c = c.in-Inner.ensures
 
 pub returns-then-link-eq0 : goal.returns-then-link-eq0
 returns-then-link-eq0 c = ways_empty ipv4 _ _ _ _ c.if-link-eq0.true
@@ -61,5 +61,5 @@ pub returns-in-Damaged : goal.returns-in-Damaged
 returns-in-Damaged c =
     let turn = c.loop-place in
     let inv = turn.invariant in
-    let damaged = subst (SeenRight ipv4 c.args.capacity c.args.pool.now c.loop-place.link c.loop-place.lowest) c.in-Damaged.is c.see.ensures in
+    let damaged = c.in-Damaged.ensures in
     ways_damaged ipv4 _ _ _ _ _ turn.link turn.lowest (omega arith) inv.4 inv.5 inv.3 damaged

@@ -9,7 +9,7 @@ use Rattle.search.proofs.edge.leftmost.Goals as goal
 use Rattle.search.proofs.edge.leftmost.Goals.{In-Inner}
 
 inner_seen : (c : In-Inner) → (SeenRight ipv4 c.args.capacity c.args.pool.now c.loop-place.link c.loop-place.lowest) (Inner c.in-Inner.place c.in-Inner.index)
-inner_seen c = subst (SeenRight ipv4 c.args.capacity c.args.pool.now c.loop-place.link c.loop-place.lowest) c.in-Inner.is c.see.ensures
+inner_seen c = c.in-Inner.ensures
 
 pub loop-place-init : goal.loop-place-init
 loop-place-init c = left_start ipv4 _ _ _
@@ -17,7 +17,7 @@ loop-place-init c = left_start ipv4 _ _ _
 pub returns-in-Leaf : goal.returns-in-Leaf
 returns-in-Leaf c =
     let turn = c.loop-place in
-    let leaf = subst (SeenRight ipv4 c.args.capacity c.args.pool.now c.loop-place.link c.loop-place.lowest) c.in-Leaf.is c.see.ensures in
+    let leaf = c.in-Leaf.ensures in
     left_leaf_lem ipv4 _ _ _ turn.link turn.lowest _ turn.invariant leaf
 
 pub overflow_add-lowest : goal.overflow_add-lowest
@@ -37,5 +37,5 @@ loop-place-preserved c =
 pub returns-in-Damaged : goal.returns-in-Damaged
 returns-in-Damaged c =
     let turn = c.loop-place in
-    let damaged = subst (SeenRight ipv4 c.args.capacity c.args.pool.now c.loop-place.link c.loop-place.lowest) c.in-Damaged.is c.see.ensures in
+    let damaged = c.in-Damaged.ensures in
     left_damaged ipv4 _ _ _ turn.link turn.lowest turn.invariant damaged

@@ -33,23 +33,23 @@ returns-then-passes c =
 
 pub loop-prefix-smaller : goal.loop-prefix-smaller
 loop-prefix-smaller c =
-    let hung = subst (HungRight ipv4 _ _ _ _) c.in-Route.is c.follow.ensures in
+    let hung = c.in-Route.ensures in
     omega (arith, length_held (goal.at.loop-prefix-smaller c).After-prefix_at-held)
 
 pub loop-prefix-preserved : goal.loop-prefix-preserved
 loop-prefix-preserved c =
-    let hung = subst (HungRight ipv4 _ _ _ _) c.in-Route.is c.follow.ensures in
+    let hung = c.in-Route.ensures in
     let inv = c.loop-prefix.invariant in
     (hung.0, along_next ipv4 _ _ _ _ _ _ inv.1 (sym (tested (goal.at.loop-prefix-preserved c).After-passes) ∙ c.if-passes.false) hung.1)
 
 pub returns-in-End : goal.returns-in-End
 returns-in-End c =
-    let ended = subst (HungRight ipv4 _ _ _ _) c.in-End.is c.follow.ensures in
+    let ended = c.in-End.ensures in
     let inv = c.loop-prefix.invariant in
     along_end ipv4 _ _ _ _ _ inv.1 (sym (tested (goal.at.returns-in-End c).After-passes) ∙ c.if-passes.false) ended
 
 pub returns-in-Damaged : goal.returns-in-Damaged
 returns-in-Damaged c =
-    let damaged = subst (HungRight ipv4 _ _ _ _) c.in-Damaged.is c.follow.ensures in
+    let damaged = c.in-Damaged.ensures in
     let inv = c.loop-prefix.invariant in
     along_damaged ipv4 _ _ _ _ _ _ inv.1 (length_held (goal.at.returns-in-Damaged c).After-prefix_at-held) damaged

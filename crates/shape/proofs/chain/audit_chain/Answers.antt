@@ -18,7 +18,7 @@ loop-link-init c = along_start ipv4 _ _ _ c.route_link-link.result
 pub returns-in_default : goal.returns-in_default
 returns-in_default c =
     let address = ap (λ (r : Route Payload). r.prefix.address) c.route_at-address.ensures in
-    let bad = subst (let address = c.route_at-address.result.prefix.address in HungSays ipv4 c.args.capacity c.args.pool.now c.loop-link.link address c.loop-link.bound.0) c.in_default.is c.step.ensures in
+    let bad = c.in_default.ensures in
     let goes_on = c.loop-link-test.true in
     chain_bad ipv4 _ _ _ _ _ _ _ _ c.route_link-link.ensures c.loop-link.invariant address goes_on bad
 
@@ -27,7 +27,7 @@ overflow_add-routes c = omega arith
 
 -- and what it says where it found a route
 next_says : (c : In-Next) → (let address = c.route_at-address.result.prefix.address in HungSays ipv4 c.args.capacity c.args.pool.now c.loop-link.link address c.loop-link.bound.0) (Hung.Next c.in-Next.next c.in-Next.shorter)
-next_says c = subst (let address = c.route_at-address.result.prefix.address in HungSays ipv4 c.args.capacity c.args.pool.now c.loop-link.link address c.loop-link.bound.0) c.in-Next.is c.step.ensures
+next_says c = c.in-Next.ensures
 
 pub loop-link-smaller : goal.loop-link-smaller
 loop-link-smaller c = let (i, f, p, q) = next_says c in omega arith

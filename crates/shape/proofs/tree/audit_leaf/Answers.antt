@@ -17,5 +17,5 @@ returns-in-Fine c low =
 pub returns-in-Bad : goal.returns-in-Bad
 returns-in-Bad c low t f =
     let args = c.args in
-    let bad = subst (let args = c.args in ChainSays ipv4 args.capacity args.pool.now args.place.0) c.in-Bad.is c.audit_chain.ensures in
+    let bad = c.in-Bad.ensures in
     leaf_bad ipv4 args.capacity args.pool.now args.place.0 low t bad f

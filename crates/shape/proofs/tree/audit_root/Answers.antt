@@ -12,8 +12,8 @@ returns-then-root-eq0 c = root_none ipv4 _ _ _ refl c.if-root-eq0.true
 
 pub returns-in_default : goal.returns-in_default
 returns-in_default c =
-    root_bad ipv4 _ _ _ refl c.if-root-eq0.false (subst (let args = c.args in TreeSays ipv4 args.capacity args.pool.now (root_in args.pool.now) 0) c.in_default.is c.audit_tree.ensures)
+    root_bad ipv4 _ _ _ refl c.if-root-eq0.false c.in_default.ensures
 
 pub returns : goal.returns
 returns c =
-    root_fine ipv4 _ _ _ _ _ _ _ refl (subst (let args = c.args in TreeSays ipv4 args.capacity args.pool.now (root_in args.pool.now) 0) c.in-Fine.is c.audit_tree.ensures)
+    root_fine ipv4 _ _ _ _ _ _ _ refl c.in-Fine.ensures

@@ -25,14 +25,14 @@ pub returns-in_default : goal.returns-in_default
 returns-in_default c l t e =
     let loop = c.loop-left in
     let args = c.args in
-    let bad = subst (TakenSays ipv4 _ _ _ _ _) c.in_default.is c.take_back.ensures in
+    let bad = c.in_default.ensures in
     let one : loop.left ≡ suc (loop.left - 1) = omega arith in
     let s = subst (λ (m : ℕ). Standing ipv4 args.capacity args.pool.now args.standing m loop.held l) one (loop.invariant.2 l t e) in
     (λ z. absurd (false≢true z), λ u. absurd (standing_stop ipv4 _ _ _ _ _ l t bad s u))
 
 -- so many are left when one more is taken back
 taken : (c : In-Held) → let loop = c.loop-left in let args = c.args in TakenSays ipv4 args.capacity args.pool.now args.standing (loop.left - 1) loop.held (Taken.Held c.in-Held.now_held)
-taken c = subst (TakenSays ipv4 _ _ _ _ _) c.in-Held.is c.take_back.ensures
+taken c = c.in-Held.ensures
 
 pub loop-left-smaller : goal.loop-left-smaller
 loop-left-smaller c = omega arith

@@ -14,12 +14,12 @@ use Rattle.table.proofs.change.add.Goals as goal
 pub returns-in_default : goal.returns-in_default
 returns-in_default c =
     let args = c.args in
-    let unsound = subst (TestedRight (tree ipv4) args.pool.now) c.in_default.is c.tested.ensures in
+    let unsound = c.in_default.ensures in
     refused_by (tree ipv4) (add (route_of args.route)) _ why.NotSound (no_unsound (tree ipv4) (add (route_of args.route)) _ refl unsound)
 
 pub add-requires : goal.add-requires
 add-requires c =
-    subst (TestedRight (tree ipv4) c.args.pool.now) c.in-Sound.is c.tested.ensures
+    c.in-Sound.ensures
 
 pub returns : goal.returns
 returns c = c.add.ensures

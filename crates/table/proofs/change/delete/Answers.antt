@@ -14,12 +14,12 @@ use Rattle.table.proofs.change.delete.Goals as goal
 pub returns-in_default : goal.returns-in_default
 returns-in_default c =
     let args = c.args in
-    let unsound = subst (TestedRight (tree ipv4) args.pool.now) c.in_default.is c.tested.ensures in
+    let unsound = c.in_default.ensures in
     refused_by (tree ipv4) (delete (hand_is args.by) (prefix_of args.prefix)) _ why.NotSound (no_unsound (tree ipv4) (delete (hand_is args.by) (prefix_of args.prefix)) _ refl unsound)
 
 pub delete-requires : goal.delete-requires
 delete-requires c =
-    subst (TestedRight (tree ipv4) c.args.pool.now) c.in-Sound.is c.tested.ensures
+    c.in-Sound.ensures
 
 pub returns : goal.returns
 returns c = c.delete.ensures

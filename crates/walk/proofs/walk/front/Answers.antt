@@ -8,16 +8,16 @@ use Rattle.walk.proofs.walk.front.Goals as goal
 
 pub route_at-requires : goal.route_at-requires
 route_at-requires c =
-    let leaf = subst (Leftmost ipv4 _ _ _) c.in-Leaf.is c.leftmost.ensures in
+    let leaf = c.in-Leaf.ensures in
     let inside = leaf.in_pool in
     omega arith
 
 pub returns-in-Leaf : goal.returns-in-Leaf
 returns-in-Leaf c =
-    let leaf = subst (Leftmost ipv4 _ _ _) c.in-Leaf.is c.leftmost.ensures in
+    let leaf = c.in-Leaf.ensures in
     fronts_leaf ipv4 _ _ _ _ _ leaf c.route_at.ensures
 
 pub returns-in-Damaged : goal.returns-in-Damaged
 returns-in-Damaged c =
-    let damaged = subst (Leftmost ipv4 _ _ _) c.in-Damaged.is c.leftmost.ensures in
+    let damaged = c.in-Damaged.ensures in
     fronts_damaged ipv4 _ _ _ damaged

@@ -16,14 +16,14 @@ use Rattle.walk.proofs.walk.right_side.Goals.{In-At}
 
 -- the level, and its place
 rose : (c : In-At) → let args = c.args in Rises ipv4 args.capacity args.pool.now args.destination 0 args.inner.now args.level (At (c.in-At.at))
-rose c = subst (Rises ipv4 _ _ _ _ _ _) c.in-At.is c.ascend.ensures
+rose c = c.in-At.ensures
 
 usable : (c : In-At) → let args = c.args in Usable ipv4 args.capacity args.pool.now (get_or args.inner.now (c.in-At.at) 0)
 usable c = c.requires.level_bound.1 (c.in-At.at) (rose c).0
 
 pub returns-in_default : goal.returns-in_default
 returns-in_default c =
-    let top = subst (Rises ipv4 _ _ _ _ _ _) c.in_default.is c.ascend.ensures in
+    let top = c.in_default.ensures in
     inr (top, refl, refl)
 
 pub offset_bounds-inner-at : goal.offset_bounds-inner-at

@@ -14,24 +14,24 @@ along-requires c =
 
 pub route_at-requires : goal.route_at-requires
 route_at-requires c =
-    let spot = subst (SpotIn ipv4 _ _ _ _) c.in-At.is c.along.ensures in
+    let spot = c.in-At.ensures in
     let inside = spot.in_pool in
     omega arith
 
 pub returns-in-At : goal.returns-in-At
 returns-in-At c =
     let way = c.requires.ways in
-    let spot = subst (SpotIn ipv4 _ _ _ _) c.in-At.is c.along.ensures in
+    let spot = c.in-At.ensures in
     goes_hit ipv4 _ _ _ _ _ _ _ way.0 way.1 _ _ spot c.route_at.ensures
 
 pub returns-in-Absent : goal.returns-in-Absent
 returns-in-Absent c =
     let way = c.requires.ways in
-    let absent = subst (SpotIn ipv4 _ _ _ _) c.in-Absent.is c.along.ensures in
+    let absent = c.in-Absent.ensures in
     goes_right ipv4 _ _ _ _ _ _ _ way.0 way.1 _ _ absent c.right_side.ensures
 
 pub returns-in-Damaged : goal.returns-in-Damaged
 returns-in-Damaged c =
     let way = c.requires.ways in
-    let damaged = subst (SpotIn ipv4 _ _ _ _) c.in-Damaged.is c.along.ensures in
+    let damaged = c.in-Damaged.ensures in
     goes_broken ipv4 _ _ _ _ _ _ _ way.0 way.1 damaged
