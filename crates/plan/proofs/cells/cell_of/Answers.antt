@@ -15,7 +15,7 @@ use Rattle.plan.proofs.cells.cell_of.Goals as goal
 use Rattle.plan.proofs.cells.cell_of.Goals.{After-bit_of-side, Else-depth-eq0}
 
 -- the last place of the way can be used
-last : (c : Else-depth-eq0) → Usable ipv4 c.args.capacity c.args.pool.now (get_or c.args.t3 (c.args.depth - 1) 0)
+last : (c : Else-depth-eq0) → Usable ipv4 c.args.capacity c.args.pool.now (get_or c.args.inner (c.args.depth - 1) 0)
 last c = last_usable ipv4 laid4 _ _ _ _ c.if-depth-eq0.false c.requires.way_usable
 
 -- the side that the address takes there
@@ -46,7 +46,6 @@ overflow_add-result-2 c =
 pub returns : goal.returns
 returns c =
     let args = c.args in
-    let pre = c.requires in
-    let side : c.wide.result ≡ bit 32 (mark_at ipv4 args.capacity args.pool.now (get_or c.args.t3 (c.args.depth - 1) 0) - 1) args.address =
+    let side : c.wide.result ≡ bit 32 (mark_at ipv4 args.capacity args.pool.now (get_or c.args.inner (c.args.depth - 1) 0) - 1) args.address =
     c.wide.ensures ∙ side_is (goal.at.returns c).After-bit_of-side ∙ ap (λ (m : ℕ). bit 32 (m - 1) args.address) c.mark_at-mark.ensures in
-    cell_side ipv4 laid4 _ _ _ _ _ _ pre.0 pre.1 c.if-depth-eq0.left (omega arith)
+    cell_side ipv4 laid4 _ _ _ _ _ _ c.requires.fit c.requires.way_usable c.if-depth-eq0.false (omega arith)

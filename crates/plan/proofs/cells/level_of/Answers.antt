@@ -9,7 +9,7 @@ use Rattle.plan.proofs.cells.level_of.Goals as goal
 use Rattle.plan.proofs.cells.level_of.Goals.{In-loop-level}
 
 -- the place at the level can be used
-here : (c : In-loop-level) → Usable ipv4 c.args.capacity c.args.pool.now (get_or c.args.t3 c.loop-level.level 0)
+here : (c : In-loop-level) → Usable ipv4 c.args.capacity c.args.pool.now (get_or c.args.inner c.loop-level.level 0)
 here c = c.requires.way_usable.usable c.loop-level.level c.loop-level-test.true
 
 pub loop-level-init : goal.loop-level-init

@@ -17,7 +17,7 @@ use Rattle.plan.proofs.plan.hung_at.Goals.{After-chain_cell-cell, In-Route}
 
 -- the cell is in the pool
 inside : (c : After-chain_cell-cell) → c.chain_cell-cell.result < length c.args.pool.now
-inside c = let pre = c.requires in cell_inside ipv4 laid4 _ _ _ _ _ _ pre.0 pre.1.1 c.chain_cell-cell.ensures
+inside c = cell_inside ipv4 laid4 _ _ _ _ _ _ c.requires.fit c.requires.first_lt_capacity.1 c.chain_cell-cell.ensures
 
 -- what the link was read as
 routed : (c : In-Route) → (word c.args.pool.now c.chain_cell-cell.result) ≡ to_route c.in-Route.place.0
@@ -31,8 +31,7 @@ bounds-pool-cell c = inside (goal.at.bounds-pool-cell c).After-chain_cell-cell
 
 pub returns-then-place-capacity : goal.returns-then-place-capacity
 returns-then-place-capacity c =
-    let pre = c.requires in
-    hung_route ipv4 laid4 _ _ _ _ _ _ c.chain_cell-cell.ensures _ pre.0 pre.1.1 (routed (goal.at.returns-then-place-capacity c).In-Route) c.if-place-capacity.true
+    hung_route ipv4 laid4 _ _ _ _ _ _ c.chain_cell-cell.ensures _ c.requires.fit c.requires.first_lt_capacity.1 (routed (goal.at.returns-then-place-capacity c).In-Route) c.if-place-capacity.true
 
 pub returns-else-place-capacity : goal.returns-else-place-capacity
 returns-else-place-capacity c =

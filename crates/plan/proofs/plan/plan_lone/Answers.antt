@@ -17,21 +17,21 @@ use Rattle.plan.proofs.plan.plan_lone.Goals as goal
 use Rattle.plan.proofs.plan.plan_lone.Goals.{After-bit_of, Else-depth-eq0}
 
 -- the last place of the way can be used
-last : (c : Else-depth-eq0) → Usable ipv4 c.args.capacity c.args.pool.now (get_or c.args.t3 (c.args.depth - 1) 0)
-last c = last_usable ipv4 laid4 _ _ _ _ c.if-depth-eq0.false c.requires.way_usable.0
+last : (c : Else-depth-eq0) → Usable ipv4 c.args.capacity c.args.pool.now (get_or c.args.inner (c.args.depth - 1) 0)
+last c = last_usable ipv4 laid4 _ _ _ _ c.if-depth-eq0.false c.requires.way_usable
 
-side : (c : After-bit_of) → c.bit_of.result ≡ bit 32 ((mark_at ipv4 c.args.capacity c.args.pool.now (get_or c.args.t3 (c.args.depth - 1) 0)) - 1) c.args.address
+side : (c : After-bit_of) → c.bit_of.result ≡ bit 32 ((mark_at ipv4 c.args.capacity c.args.pool.now (get_or c.args.inner (c.args.depth - 1) 0)) - 1) c.args.address
 side c = c.bit_of.ensures ∙ ap (λ (m : ℕ). bit 32 (m - 1) c.args.address) c.mark_at-mark.ensures
 
 pub returns-then-depth-eq0 : goal.returns-then-depth-eq0
-returns-then-depth-eq0 c = lone_last ipv4 laid4 _ _ _ _ _ _ c.requires.way_usable.1 c.if-depth-eq0.true
+returns-then-depth-eq0 c = lone_last ipv4 laid4 _ _ _ _ _ _ c.requires.place_lt_capacity c.if-depth-eq0.true
 
 pub mark_at-mark-requires : goal.mark_at-mark-requires
 mark_at-mark-requires c = let u = last c in omega arith
 
 pub cell_of-up-requires : goal.cell_of-up-requires
 cell_of-up-requires c =
-    let pre = c.requires in record { fit = pre.0; way_usable = fewer ipv4 laid4 _ _ _ _ _ (omega arith) pre.1.0 }
+    record { fit = c.requires.fit; way_usable = fewer ipv4 laid4 _ _ _ _ _ (omega arith) c.requires.way_usable }
 
 pub overflow_sub-mark : goal.overflow_sub-mark
 overflow_sub-mark c = let u = last (goal.at.overflow_sub-mark c).Else-depth-eq0 in omega arith
@@ -47,13 +47,11 @@ left_at-requires c = let u = last (goal.at.left_at-requires c).Else-depth-eq0 in
 
 pub returns-then-bit_of-eq0 : goal.returns-then-bit_of-eq0
 returns-then-bit_of-eq0 c =
-    let pre = c.requires in
     let sibling = take_left _ _ _ _ (sym (side (goal.at.returns-then-bit_of-eq0 c).After-bit_of) ∙ c.if-bit_of-eq0.true) c.right_at.ensures in
-    lone_leaf ipv4 laid4 _ _ _ _ _ _ pre.1.1 _ _ _ c.if-depth-eq0.false pre.1.0 c.cell_of-up.ensures refl sibling
+    lone_leaf ipv4 laid4 _ _ _ _ _ _ c.requires.place_lt_capacity _ _ _ c.if-depth-eq0.false c.requires.way_usable c.cell_of-up.ensures refl sibling
 
 pub returns-else-bit_of-eq0 : goal.returns-else-bit_of-eq0
 returns-else-bit_of-eq0 c =
-    let pre = c.requires in
     let one = bit_lt 32 _ c.args.address in
-    lone_leaf ipv4 laid4 _ _ _ _ _ _ pre.1.1 _ _ _ c.if-depth-eq0.false pre.1.0 c.cell_of-up.ensures refl
+    lone_leaf ipv4 laid4 _ _ _ _ _ _ c.requires.place_lt_capacity _ _ _ c.if-depth-eq0.false c.requires.way_usable c.cell_of-up.ensures refl
     (take_right _ _ _ _ one (λ z. c.if-bit_of-eq0.false (side (goal.at.returns-else-bit_of-eq0 c).After-bit_of ∙ z)) c.left_at.ensures)

@@ -39,7 +39,11 @@ returns-then-next_at-ne0 c =
 pub plan_lone-requires : goal.plan_lone-requires
 plan_lone-requires c =
     let way = c.down-way.ensures in
-    (c.requires, (record { shallow = way.shallow; usable = way.usable }, (hung (goal.at.plan_lone-requires c).In-At).in_pool.1))
+    record {
+      fit = c.requires;
+      way_usable = record { shallow = way.shallow; usable = way.usable };
+      place_lt_capacity = (hung (goal.at.plan_lone-requires c).In-At).in_pool.1;
+    }
 
 pub returns-else-next_at-ne0 : goal.returns-else-next_at-ne0
 returns-else-next_at-ne0 c =

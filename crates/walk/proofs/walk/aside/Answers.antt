@@ -24,9 +24,8 @@ passed c =
 
 pub right_side-requires : goal.right_side-requires
 right_side-requires c =
-    let pre = c.requires in
-    let way = pre.1.0 in
-    let within = c.rejoin-level.ensures.within in record { fit = pre.0; level_bound = (omega (arith, way.shallow), λ k h. way.usable k (omega arith)) }
+    let way = c.requires.ways.0 in
+    let within = c.rejoin-level.ensures.within in record { fit = c.requires.fit; level_bound = (omega (arith, way.shallow), λ k h. way.usable k (omega arith)) }
 
 pub returns-then-bit_of-eq1 : goal.returns-then-bit_of-eq1
 returns-then-bit_of-eq1 c =
@@ -47,15 +46,14 @@ returns-then-level-depth c =
     (inl (c.if-level-depth.true, c.route_link.ensures))
 
 pub offset_bounds-inner-level : goal.offset_bounds-inner-level
-offset_bounds-inner-level c = omega (arith, passed (goal.at.offset_bounds-inner-level c).Else-level-depth)
+offset_bounds-inner-level c = omega (arith, c.rejoin-level.ensures.within, c.if-level-depth.false)
 
 pub bounds-inner-level : goal.bounds-inner-level
-bounds-inner-level c = omega (arith, passed (goal.at.bounds-inner-level c).Else-level-depth)
+bounds-inner-level c = omega (arith, c.rejoin-level.ensures.within, c.if-level-depth.false)
 
 pub inner_link-requires : goal.inner_link-requires
 inner_link-requires c =
-    let pre = c.requires in
-    omega (arith, (pre.1.0.usable c.rejoin-level.result (passed c)).in_pool, pre.0.0)
+    omega (arith, (c.requires.ways.0.usable c.rejoin-level.result (passed c)).in_pool, c.requires.fit.0)
 
 pub returns : goal.returns
 returns c =

@@ -11,7 +11,7 @@ use Rattle.walk.proofs.walk.rejoin.Goals as goal
 use Rattle.walk.proofs.walk.rejoin.Goals.{In-loop-level}
 
 -- the place of the level can be used
-usable : (c : In-loop-level) → let args = c.args in Usable ipv4 args.capacity args.pool.now (placeAt c.before (c.loop-level.level - 1))
+usable : (c : In-loop-level) → let args = c.args in Usable ipv4 args.capacity args.pool.now (get_or args.inner.now (c.loop-level.level - 1) 0)
 usable c = c.requires.depth_bound.1 (c.loop-level.level - 1) (omega arith)
 
 pub loop-level-init : goal.loop-level-init
@@ -35,9 +35,9 @@ returns-then-mark_at-parted c =
 pub loop-level-preserved : goal.loop-level-preserved
 loop-level-preserved c =
     let parted = c.args.parted in
-    let here : parted < (λ (k : ℕ). mark_at ipv4 c.args.capacity c.args.pool.now ((λ (k : ℕ). get_or c.args.inner.now k 0) k)) (c.loop-level.level - 1) = subst (λ (n : ℕ). parted < n) c.mark_at.ensures c.if-mark_at-parted.false in (
+    let here : parted < mark_at ipv4 c.args.capacity c.args.pool.now (get_or c.args.inner.now (c.loop-level.level - 1) 0) = subst (λ (n : ℕ). parted < n) c.mark_at.ensures c.if-mark_at-parted.false in (
       omega arith,
-      λ m h l. ⊎_elim (λ e. subst (λ (x : ℕ). parted < (λ (k : ℕ). mark_at ipv4 c.args.capacity c.args.pool.now ((λ (k : ℕ). get_or c.args.inner.now k 0) k)) x) (sym e) here)
+      λ m h l. ⊎_elim (λ e. subst (λ (x : ℕ). parted < mark_at ipv4 c.args.capacity c.args.pool.now (get_or c.args.inner.now x 0)) (sym e) here)
           (λ n. c.loop-level.invariant.1 m (omega arith) l)
           (eq_or_ne m (c.loop-level.level - 1)),
     )
