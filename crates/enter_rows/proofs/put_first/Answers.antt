@@ -18,5 +18,5 @@ returns c =
     let args = c.args in
     let row = c.write_route in
     let entered = route_writes ipv4 args.place.0 (route_of args.route) 0 in
-    ap (λ (v : ℕ). set (set row.new.0 2 v) 1 (word args.pool.now 1 + 1)) c.route_link.ensures
-    ∙ two_more args.pool.now row.new.0 entered 2 _ 1 _ row.ensures
+    ap (λ (v : ℕ). set (set row.new.pool 2 v) 1 (word args.pool.now 1 + 1)) c.route_link.ensures
+    ∙ two_more args.pool.now row.new.pool entered 2 _ 1 _ row.ensures

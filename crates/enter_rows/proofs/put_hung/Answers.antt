@@ -20,5 +20,5 @@ returns c =
     let args = c.args in
     let row = c.write_route in
     let entered = route_writes ipv4 args.place.0 (route_of args.route) (word args.pool.now args.cell) in
-    ap (λ (v : ℕ). set (set row.new.0 args.cell v) 1 (word args.pool.now 1 + 1)) c.route_link.ensures
-    ∙ two_more args.pool.now row.new.0 entered args.cell _ 1 _ row.ensures
+    ap (λ (v : ℕ). set (set row.new.pool args.cell v) 1 (word args.pool.now 1 + 1)) c.route_link.ensures
+    ∙ two_more args.pool.now row.new.pool entered args.cell _ 1 _ row.ensures

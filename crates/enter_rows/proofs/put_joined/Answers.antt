@@ -17,7 +17,7 @@ bounds-pool-1-2 c = simp length-set (omega arith)
 pub returns : goal.returns
 returns c =
     let args = c.args in
-    join_row ipv4 args.pool.now c.write_route.last.0 c.write_inner.last.0 args.capacity
+    join_row ipv4 args.pool.now c.write_route.new.pool c.write_inner.new.pool args.capacity
     args.place.0 args.inner.0 args.index args.cell (route_of args.route) c.route_link.result
     c.sides-both.result.0 c.sides-both.result.1 c.inner_link.result
     c.route_link.ensures c.sides-both.ensures.0 c.sides-both.ensures.1 c.inner_link.ensures

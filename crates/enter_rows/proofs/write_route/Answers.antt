@@ -12,7 +12,7 @@ use Rattle.enter_rows.proofs.write_route.Goals as goal
 pub returns : goal.returns
 returns c =
     let args = c.args in
-    route_row ipv4 args.pool.now c.write_payload.last.0 c.write_prefix.new.0 args.place.0 c.seat-at.result
+    route_row ipv4 args.pool.now c.write_payload.new.pool c.write_prefix.new.pool args.place.0 c.seat-at.result
     (payload_of args.route.payload) (prefix_of args.route.prefix) args.next
     c.seat-at.ensures c.write_payload.ensures c.write_prefix.ensures
 

@@ -17,21 +17,21 @@ write_prefix-requires c = simp length-set (omega arith)
 
 pub write_payload-requires : goal.write_payload-requires
 write_payload-requires c =
-    omega (arith, simp length-set at c.write_prefix.auto.0)
+    omega (arith, simp length-set at c.write_prefix.auto.pool)
 
 pub write_payload-requires-2 : goal.write_payload-requires-2
 write_payload-requires-2 c =
-    omega (arith, c.write_payload.auto.0, simp length-set at c.write_prefix.kept.0)
+    omega (arith, c.write_payload.auto.pool, simp length-set at c.write_prefix.auto.pool)
 
 pub bounds-pool-4-2 : goal.bounds-pool-4-2
 bounds-pool-4-2 c =
-    omega (arith, c.write_payload-2.auto.0, c.write_payload.kept.0, simp length-set at c.write_prefix.kept.0)
+    omega (arith, c.write_payload-2.auto.pool, c.write_payload.auto.pool, simp length-set at c.write_prefix.auto.pool)
 
 pub returns : goal.returns
 returns c =
     let args = c.args in
     let place = c.slot-at.ensures ∙ ap (ipv4.slot args.capacity) c.wide.ensures in
-    record_row ipv4 args.pool.now c.write_prefix.last.0 c.write_payload.last.0 c.write_payload-2.new.0
+    record_row ipv4 args.pool.now c.write_prefix.new.pool c.write_payload.new.pool c.write_payload-2.new.pool
     args.capacity (word args.pool.now 4) c.slot-at.result args.action
     (prefix_of args.prefix) (payload_of args.old) (payload_of args.new)
     place c.write_prefix.ensures c.write_payload.ensures c.write_payload-2.ensures

@@ -14,24 +14,22 @@ free-place-requires c = record { fit = c.requires.fit; spare = put_route_spare i
 
 pub put_hung-requires : goal.put_hung-requires
 put_hung-requires c =
-    let pre = c.requires in
     let free = c.free-place.ensures.in_pool in
-    let cell_in = subst (PutInPool _ _) c.in-Hang.is c.plan_put.ensures.put_in_pool in
-    (omega (arith, pre.0.1, free), omega (arith, pre.0.0, free), put_count ipv4 laid4 _ _ _ _ pre.1.1 pre.0, cell_in)
+    let cell_in = c.in-Hang.ensures.put_in_pool in
+    (omega (arith, c.requires.fit.1, free), omega (arith, c.requires.fit.0, free), put_count ipv4 laid4 _ _ _ _ c.requires.to_put.1 c.requires.fit, cell_in)
 
 pub free-inner-requires : goal.free-inner-requires
 free-inner-requires c = record { fit = c.requires.fit; spare = put_inner_spare ipv4 laid4 _ _ _ _ c.requires.to_put.1 }
 
 pub put_joined-requires : goal.put_joined-requires
 put_joined-requires c =
-    let pre = c.requires in
-    let words = pre.0 in
+    let words = c.requires.fit in
     let free = c.free-place.ensures.in_pool in
     let inner = c.free-inner.ensures.in_pool in
     let told = c.in-Join.is in
     let cell_in = subst (PutInPool _ _) told c.plan_put.ensures.put_in_pool in
     let plan = subst (PutRight ipv4 _ _ _) told c.plan_put.ensures.put_right in
-    let low = joins_low ipv4 laid4 _ _ _ _ pre.1.1 _ _ plan in record { next_offset_in_bounds = (omega (arith, words.1, free), omega (arith, words.0, free), put_count ipv4 laid4 _ _ _ _ pre.1.1 words, cell_in.0); inner_in_bounds = (omega (arith, words.1, inner), words.0, omega (arith, words.0, inner), low) }
+    let low = joins_low ipv4 laid4 _ _ _ _ c.requires.to_put.1 _ _ plan in record { next_offset_in_bounds = (omega (arith, words.1, free), omega (arith, words.0, free), put_count ipv4 laid4 _ _ _ _ c.requires.to_put.1 words, cell_in.0); inner_in_bounds = (omega (arith, words.1, inner), words.0, omega (arith, words.0, inner), low) }
 
 pub returns-in-First : goal.returns-in-First
 returns-in-First c =
