@@ -1,4 +1,4 @@
-//! Says where the archive of the proved table is: in the folder that `RISHAVAND_LIB` names, else where `rt staticlib exports`
+//! Says where the archive of the proved table is: in the folder that `RISHAVAND_LIB` names, else where `reference/build exports`
 //! writes it.
 
 use std::env;
@@ -16,7 +16,7 @@ fn main() {
     if !archive.is_file() {
         // A link error would name every symbol and not the reason.
         eprintln!(
-            "no {}: run `rt staticlib exports`, or set RISHAVAND_LIB to its folder",
+            "no {}: run `reference/build exports`, or set RISHAVAND_LIB to its folder",
             archive.display()
         );
         std::process::exit(1);

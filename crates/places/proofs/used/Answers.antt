@@ -27,7 +27,7 @@ loop-at-preserved c =
     let same = tally_same (is_used ipv4 c.args.capacity c.args.pool.now c.args.sort) c.loop-at.at _ _ c.loop-at.invariant.1 in (
       omega arith,
       elim c.if-mark_of-ne0.branch [
-        then-mark_of-ne0 w ↦ more (passes _ (λ e. w.if-mark_of-ne0.true (read ∙ e))) w.count-is
+        | then-mark_of-ne0 w ↦ more (passes _ (λ e. w.if-mark_of-ne0.true (read ∙ e))) w.count-is
         | else-mark_of-ne0 w ↦ same (passes_not _ (sym read ∙ w.if-mark_of-ne0.false)) w.count-is
       ],
     )
