@@ -5,7 +5,7 @@ use mathlib.Core.Path.{◌≡◌, refl, sym, ap, subst, ◌∙◌}
 use mathlib.Core.Bool.{Bool, true, false, not, cond, true≢false}
 use mathlib.Core.List.{List, [], ◌∷◌, ◌++◌, tail}
 use mathlib.Core.Option.{some}
-use borrow.Author.Tests.{eq-eqb, not-false}
+use borrow.Author.Tests.{eq-eqb}
 use lib.Dec.{eqb, eqb-suc-zero}
 use lib.ListN.{length}
 use Rattle.model.specs.Prefix.{Prefix}
@@ -14,7 +14,6 @@ use Rattle.model.specs.State.{Hand, Rules, Change, added, deleted, changed, Tria
 use Rattle.model.specs.Call.{Call, fresh, add, delete, change, lookup, first, after, room, mask, open_trial, keep, back_out, step_back, due, number, accepted, change_to, with_trial, stepped_back, done, next}
 use Rattle.model.specs.Lawful.{Lawful}
 use Rattle.model.specs.History.{Deed, put, drop, swap, Told, noted, heard, heard_if, told, act, replay}
-use Rattle.model.proofs.Tests.{both}
 use Rattle.model.proofs.Undo.{add_records, delete_records, change_records}
 use Rattle.model.proofs.Numbers.{Quiet, accepted_quiet}
 use Rattle.model.proofs.Taken.{add_taken, delete_taken, change_taken}

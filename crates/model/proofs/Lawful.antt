@@ -3,19 +3,19 @@ use Prim.Native.Nat.{ℕ, suc, ◌≤◌, zero-le}
 use mathlib.Core.Path.{◌≡◌, refl, sym, ap, subst, ◌∙◌}
 use mathlib.Core.Bool.{Bool, true, false, true≢false}
 use mathlib.Core.List.{List, [], ◌∷◌}
-use mathlib.Core.Logic.{◌⊎◌, inl, inr, ⊎_elim}
-use mathlib.Core.Option.{Option, none, some}
+use mathlib.Core.Logic.{inl, inr, ⊎_elim}
+use mathlib.Core.Option.{none, some}
 use native.Mathlib.Nat.{le_trans, le_of_eq, le-suc}
 use native.Mathlib.Omega.{arith}
-use borrow.Author.Tests.{eqb-false, ltb-false, not-false}
+use borrow.Author.Tests.{eqb-false, ltb-false}
 use lib.Dec.{eqb}
 use lib.ListN.{length}
-use Rattle.model.specs.Prefix.{Prefix, well_formed}
-use Rattle.model.specs.Routes.{Route, Held, InOrder, find, present, holds, insert, remove, replace}
+use Rattle.model.specs.Prefix.{Prefix}
+use Rattle.model.specs.Routes.{Route, Held, InOrder, find, present, insert, remove, replace}
 use Rattle.model.specs.State.{Rules, good_payload, Change, added, deleted, changed, Trial, closed, opened, State, Meaning, empty, changes, undo, undo_all}
-use Rattle.model.specs.Call.{Call, fresh, add, delete, change, lookup, first, after, room, mask, open_trial, keep, back_out, step_back, due, accepted, trial_full, change_to, delete_from, change_at, with_trial, stepped_back, done, next}
+use Rattle.model.specs.Call.{Call, fresh, add, delete, change, lookup, first, after, room, mask, open_trial, keep, back_out, step_back, accepted, trial_full, change_to, with_trial, stepped_back, done, next}
 use Rattle.model.specs.Lawful.{Obeys, AllObey, ChangeObeys, AllChangesObey, CanUndo, Undoable, Lawful}
-use Rattle.model.proofs.Tests.{both, fails, or_left, or_right}
+use Rattle.model.proofs.Tests.{fails, or_left, or_right}
 use Rattle.model.proofs.Routes.{find_held, there, absent}
 use Rattle.model.proofs.Edits.{insert_order, insert_held, insert_found, length_insert, remove_order, remove_absent, remove_held, length_remove, replace_order, replace_held, replace_found, length_replace}
 use Rattle.model.proofs.Undo.{delete_records, change_records, undo_add, undo_delete, undo_change}

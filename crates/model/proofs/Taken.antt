@@ -1,5 +1,4 @@
 -- What is known where one of the three changes is accepted: its lines, each read once.
-use Prim.Native.Nat.{ℕ}
 use mathlib.Core.Path.{◌≡◌}
 use mathlib.Core.Bool.{true, false, not}
 use mathlib.Core.Option.{none, some}

@@ -5,7 +5,6 @@ use mathlib.Core.List.{List, [], ◌∷◌}
 use mathlib.Core.Logic.{◌⊎◌, inl, inr, ⊎_elim}
 use mathlib.Core.Option.{Option, none, some}
 use native.Mathlib.Omega.{arith}
-use lib.ListN.{length}
 use Rattle.bits.specs.Address.{first, bit}
 use Rattle.bits.proofs.Cases.{zero_or_one}
 use Rattle.bits.proofs.First.{bit_lt, first_step, first_lt}
@@ -16,7 +15,7 @@ use Rattle.model.proofs.Append.{held_append, append_order, AllBefore}
 use Rattle.model.proofs.Match.{formed, AllFormed}
 use Rattle.patricia.specs.Tree.{Entry, Tree, leaf, node, Root, route_of, hung, routes, root_routes, Under}
 use Rattle.patricia.specs.Good.{All, Joint, Good, RootGood}
-use Rattle.patricia.specs.Obeys.{Shorter, LongestFirst, AllWellFormed, LeafObeys, Grows, Obeys, RootObeys}
+use Rattle.patricia.specs.Obeys.{Shorter, LongestFirst, AllWellFormed, Grows, Obeys, RootObeys}
 
 -- ---- bits before b, and bit b
 

@@ -3,7 +3,6 @@ use Prim.Native.Nat.{ℕ, ◌≤◌, ◌<◌}
 use mathlib.Core.Path.{◌≡◌, refl, sym, subst, ◌∙◌}
 use mathlib.Core.List.{List, [], ◌∷◌, ◌++◌}
 use mathlib.Core.Logic.{◌⊎◌, inl, inr}
-use lib.ListN.{length}
 use Rattle.patricia.specs.Tree.{Entry, leaf, node}
 use Rattle.pool.specs.Layout.{Layout, kind_at, held_prefix, held_payload, next_at, mark_at, left_at, right_at}
 use Rattle.pool.specs.Holds.{Seat, Seated, InPlace, Chain, Holds, chain_places, route_places, inner_places}

@@ -1,6 +1,6 @@
 -- The IPv4 layout is laid as the laws ask: a payload is read where it was written, and nowhere else.
-use Prim.Native.Nat.{ℕ, ◌+◌, ◌≤◌, ◌<◌}
-use mathlib.Core.Path.{◌≡◌, refl, subst, ◌∙◌}
+use Prim.Native.Nat.{ℕ, ◌+◌, ◌≤◌}
+use mathlib.Core.Path.{◌≡◌, refl, ◌∙◌}
 use mathlib.Core.List.{List, [], ◌∷◌}
 use mathlib.Core.Logic.{inl, inr}
 use native.Mathlib.Omega.{arith}
@@ -8,8 +8,8 @@ use lib.ListN.{length}
 use Rattle.model.specs.Ipv4.{Hop, direct, via, reject, Origin, fixed, learned, Payload}
 use Rattle.pool.specs.Write.{writes}
 use Rattle.pool.specs.Layout.{word}
-use Rattle.pool.specs.Ipv4.{hop_from, hop_at, origin_from, origin_at, held_at, ipv4}
-use Rattle.pool.specs.Written.{kind_of, port_of, gateway_of, hop_writes, origin_word, metric_word, origin_writes, held_writes}
+use Rattle.pool.specs.Ipv4.{hop_from, origin_from, held_at, ipv4}
+use Rattle.pool.specs.Written.{kind_of, port_of, gateway_of, origin_word, metric_word, held_writes}
 use Rattle.pool.proofs.Writes.{Off, word_on}
 use Rattle.pool.proofs.Laid.{Agree, Outside, Laid}
 

@@ -1,6 +1,6 @@
 -- How much room a pool takes, and that none of it is lost.
 use Prim.Native.Nat.{ℕ, zero, suc, ◌*◌, ◌≤◌, ◌<◌}
-use mathlib.Core.Path.{◌≡◌, refl, sym, ap, subst, ◌∙◌}
+use mathlib.Core.Path.{◌≡◌, refl, ap, subst, ◌∙◌}
 use mathlib.Core.List.{List}
 use mathlib.Core.Logic.{◌⊎◌, inl, inr, ⊎_elim}
 use mathlib.Core.Option.{none, some}
@@ -17,7 +17,7 @@ use Rattle.patricia.specs.Good.{RootGood}
 use Rattle.patricia.proofs.Form.{root_obeys_good}
 use Rattle.pool.specs.Layout.{Layout, size, root_in, kind_at}
 use Rattle.pool.specs.Ipv4.{ipv4}
-use Rattle.pool.specs.Holds.{Seat, bare, bare_root, HoldsRoot}
+use Rattle.pool.specs.Holds.{Seat, bare_root, HoldsRoot}
 use Rattle.pool.specs.Means.{Among, routes_used, Means}
 use Rattle.pool.proofs.Frame.{routes_in_pool}
 use Rattle.pool.proofs.Places.{route_count, route_used}

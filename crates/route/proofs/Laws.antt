@@ -1,5 +1,5 @@
 -- What each test of the types' functions comes to, over plain values.
-use Prim.Native.Nat.{ℕ, ◌≤◌, ◌<◌, ◌-◌, ◌^◌}
+use Prim.Native.Nat.{ℕ, ◌≤◌, ◌<◌, ◌^◌}
 use mathlib.Core.Path.{◌≡◌, sym}
 use mathlib.Core.Bool.{Bool, true, false, not, ◌&&◌, or-false}
 use native.Mathlib.Nat.{sub-eq-zero_of_le, le_of_lt, div-one}

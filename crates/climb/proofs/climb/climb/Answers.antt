@@ -8,7 +8,6 @@ use Rattle.model.specs.Ipv4.{Payload}
 use Rattle.route.specs.Means.{prefix_of}
 use Rattle.pool.specs.Layout.{held_prefix, left_at}
 use Rattle.pool.specs.Ipv4.{ipv4}
-use Rattle.search.specs.Chain.{HungRight}
 use Rattle.search.specs.Down.{EndInPool, Usable}
 use Rattle.search.specs.Edge.{Rises, Leftmost}
 use Rattle.search.specs.declared.edge.Rise.TheVariants.{At}

@@ -6,7 +6,6 @@ use Rattle.model.specs.Prefix.{Prefix}
 use Rattle.patricia.specs.Obeys.{Shorter}
 use Rattle.pool.specs.Layout.{prefix_at}
 use Rattle.pool.specs.Ipv4.{ipv4}
-use Rattle.search.specs.Chain.{HungRight}
 use Rattle.plan.proofs.ChainAt.{chain_start, chain_here, chain_next, chain_last, chain_damaged}
 use Rattle.plan.proofs.cells.chain_cell.Goals as goal
 use Rattle.plan.proofs.cells.chain_cell.Goals.{After-follow, After-prefix_at-held}

@@ -1,5 +1,5 @@
-use Prim.Native.Nat.{◌-◌, ◌<◌}
-use mathlib.Core.Path.{refl, subst, ◌∙◌}
+use Prim.Native.Nat.{◌<◌}
+use mathlib.Core.Path.{refl, ◌∙◌}
 use native.Mathlib.Omega.{arith}
 use borrow.Author.Rules.{rules}
 use lib.ListN.{length, length-set}

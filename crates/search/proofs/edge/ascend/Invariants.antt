@@ -1,5 +1,5 @@
 -- Every level that the loop has passed took the other side, so the first that takes this one is the deepest. The level falls.
-use Prim.Native.Nat.{ℕ, ◌-◌, ◌≤◌, ◌<◌}
+use Prim.Native.Nat.{ℕ, ◌≤◌, ◌<◌}
 use lib.ListN.{get_or}
 use Rattle.pool.specs.Ipv4.{ipv4}
 use Rattle.search.specs.Edge.{Takes}

@@ -1,11 +1,10 @@
 use Prim.Native.Nat.{ℕ, ◌+◌}
-use mathlib.Core.Path.{◌≡◌, sym, ap, subst, ◌∙◌}
+use mathlib.Core.Path.{◌≡◌, sym, ap, ◌∙◌}
 use native.Mathlib.Omega.{arith}
 use Rattle.model.specs.Prefix.{Prefix}
 use Rattle.route.specs.Means.{prefix_of}
 use Rattle.pool.specs.Layout.{prefix_at}
 use Rattle.pool.specs.Ipv4.{ipv4}
-use Rattle.search.specs.Chain.{HungRight}
 use Rattle.search.specs.Find.{asked}
 use Rattle.search.proofs.Spots.{along_start, along_next, along_hit, along_end, along_damaged}
 use Rattle.search.proofs.exact.along.Goals as goal

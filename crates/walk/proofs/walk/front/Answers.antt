@@ -1,8 +1,6 @@
 -- `leftmost` goes to a leaf, whose first route is the front (`fronts_leaf`); where it finds none, no good tree stands at the link (`fronts_damaged`).
-use mathlib.Core.Path.{subst}
 use native.Mathlib.Omega.{arith}
 use Rattle.pool.specs.Ipv4.{ipv4}
-use Rattle.search.specs.Edge.{Leftmost}
 use Rattle.walk.proofs.Fronts.{fronts_leaf, fronts_damaged}
 use Rattle.walk.proofs.walk.front.Goals as goal
 

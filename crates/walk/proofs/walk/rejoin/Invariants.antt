@@ -1,6 +1,6 @@
 -- Every level that the loop has passed tests the bit of the parting or a later one; it ends at the first that tests an earlier one,
 -- or at the top, and what it has passed and not passed is what is promised. The level falls.
-use Prim.Native.Nat.{ℕ, ◌-◌, ◌≤◌, ◌<◌}
+use Prim.Native.Nat.{ℕ, ◌≤◌, ◌<◌}
 use lib.ListN.{get_or}
 use Rattle.pool.specs.Layout.{mark_at}
 use Rattle.pool.specs.Ipv4.{ipv4}

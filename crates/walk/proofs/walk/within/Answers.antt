@@ -4,7 +4,6 @@ use mathlib.Core.Path.{subst}
 use native.Mathlib.Omega.{arith}
 use Rattle.pool.specs.Ipv4.{ipv4}
 use Rattle.search.specs.Down.{EndInPool}
-use Rattle.search.specs.Find.{SpotIn}
 use Rattle.walk.proofs.Onward.{goes_hit, goes_right, goes_broken}
 use Rattle.walk.proofs.walk.within.Goals as goal
 
