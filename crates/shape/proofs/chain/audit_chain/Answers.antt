@@ -1,4 +1,4 @@
-use mathlib.Core.Path.{ap, subst}
+use mathlib.Core.Path.{ap}
 use native.Mathlib.Omega.{arith}
 use Rattle.model.specs.Ipv4.{Payload}
 use Rattle.model.specs.Routes.{Route}
