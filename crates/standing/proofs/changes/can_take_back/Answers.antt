@@ -19,7 +19,11 @@ pub overflow_sub-change : goal.overflow_sub-change
 overflow_sub-change c = omega arith
 
 pub take_back-requires : goal.take_back-requires
-take_back-requires c = (c.requires.fit, ((omega arith, omega arith), omega arith))
+take_back-requires c = record {
+  fit = c.requires.fit;
+  standing_bound = (omega arith, omega arith);
+  held_le_capacity = omega arith;
+}
 
 pub returns-in_default : goal.returns-in_default
 returns-in_default c l t e =
