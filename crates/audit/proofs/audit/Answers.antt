@@ -3,7 +3,6 @@
 use Prim.Native.Nat.{ℕ}
 use mathlib.Core.Path.{sym, subst, ◌∙◌}
 use native.Mathlib.Omega.{arith}
-use borrow.Author.Tests.{not-true, not-false}
 use Rattle.model.proofs.Tests.{not_both}
 use Rattle.pool.specs.Ipv4.{ipv4}
 use Rattle.audit.specs.Head.{HeadFine}
@@ -19,13 +18,13 @@ use Rattle.audit.proofs.audit.Goals as goal
 use Rattle.audit.proofs.audit.Goals.{Else-not-head_is_good, In-Fine}
 
 pub returns-then-not-head_is_good : goal.returns-then-not-head_is_good
-returns-then-not-head_is_good c = refused (λ s. not_both (c.head_is_good.ensures.1 (sound_fine ipv4 _ _ s).head) (not-true _ c.if-not-head_is_good.true))
+returns-then-not-head_is_good c = refused (λ s. not_both (c.head_is_good.ensures.1 (sound_fine ipv4 _ _ s).head) c.if-not-head_is_good.true)
 
 -- what the first two tests say
 head_fine : (c : Else-not-head_is_good) → HeadFine ipv4 c.args.capacity c.args.pool.now
-head_fine c = c.head_is_good.ensures.0 (not-false _ c.if-not-head_is_good.false)
+head_fine c = c.head_is_good.ensures.0 c.if-not-head_is_good.false
 
-root_says : (c : In-Fine) → let args = c.args in let counts-told = c.routes-1.given.0 in RootSays ipv4 args.capacity args.pool.now (RootAudit.Fine counts-told.0 counts-told.1.0)
+root_says : (c : In-Fine) → RootSays ipv4 c.args.capacity c.args.pool.now (RootAudit.Fine c.in-Fine.routes c.in-Fine.inners)
 root_says c = c.in-Fine.ensures
 
 pub returns-in_default : goal.returns-in_default
@@ -51,7 +50,7 @@ pub returns-then-not-changes_are_good : goal.returns-then-not-changes_are_good
 returns-then-not-changes_are_good c =
     let good = c.changes_are_good.ensures.1 in
     let same = sym c.wide-standing.ensures in
-    refused (λ s. not_both (good (subst (ChangesFine ipv4 _ _) same (sound_fine ipv4 _ _ s).changes_fine)) (not-true _ c.if-not-changes_are_good.true))
+    refused (λ s. not_both (good (subst (ChangesFine ipv4 _ _) same (sound_fine ipv4 _ _ s).changes_fine)) c.if-not-changes_are_good.true)
 
 pub can_take_back-requires : goal.can_take_back-requires
 can_take_back-requires c =
@@ -68,7 +67,7 @@ pub returns : goal.returns
 returns c =
     let args = c.args in
     let same = c.wide-standing.ensures in
-    let changes-fine = subst (ChangesFine ipv4 _ _) same (c.changes_are_good.ensures.0 (not-false _ c.if-not-changes_are_good.false)) in
+    let changes-fine = subst (ChangesFine ipv4 _ _) same (c.changes_are_good.ensures.0 c.if-not-changes_are_good.false) in
     let routes = c.in-Fine.routes in
     let back = c.can_take_back in
     let says = subst (λ (n : ℕ). BackSays ipv4 args.capacity args.pool.now n routes back.result) same back.ensures in
