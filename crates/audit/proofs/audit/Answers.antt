@@ -37,11 +37,11 @@ returns-then-wide-routes c = refused (λ s. c.if-wide-routes.true (c.wide.ensure
 
 pub returns-then-used-routes : goal.returns-then-used-routes
 returns-then-used-routes c =
-    refused (λ s. c.if-used-routes.true (c.used.ensures ∙ (counts ipv4 _ _ _ _ (root_says (goal.at.returns-then-used-routes c).In-Fine) s).1))
+    refused (λ s. let told = counts ipv4 _ _ _ _ (root_says (goal.at.returns-then-used-routes c).In-Fine) s in omega (arith, told.1, told.2))
 
 pub returns-then-used-inners : goal.returns-then-used-inners
 returns-then-used-inners c =
-    refused (λ s. c.if-used-inners.true (c.used-2.ensures ∙ (counts ipv4 _ _ _ _ (root_says (goal.at.returns-then-used-inners c).In-Fine) s).2))
+    refused (λ s. let told = counts ipv4 _ _ _ _ (root_says (goal.at.returns-then-used-inners c).In-Fine) s in omega (arith, told.1, told.2))
 
 pub changes_are_good-requires : goal.changes_are_good-requires
 changes_are_good-requires c = record { fit = c.requires; standing_bound = omega (arith, (head_fine (goal.at.changes_are_good-requires c).Else-not-head_is_good).few, c.wide-standing.ensures) }
@@ -73,6 +73,6 @@ returns c =
     let says = subst (λ (n : ℕ). BackSays ipv4 args.capacity args.pool.now n routes back.result) same back.ensures in
     decides ipv4 args.capacity args.pool.now _ _ (root_says (goal.at.returns c).In-Fine) c.requires (head_fine (goal.at.returns c).Else-not-head_is_good)
     (sym c.wide.ensures ∙ c.if-wide-routes.false)
-    (sym c.used.ensures ∙ c.if-used-routes.false)
-    (sym c.used-2.ensures ∙ c.if-used-inners.false)
+    (omega arith)
+    (omega arith)
     changes-fine back.result says
