@@ -5,14 +5,14 @@ use mathlib.Core.Path.{sym, subst, ◌∙◌}
 use native.Mathlib.Omega.{arith}
 use Rattle.model.proofs.Tests.{not_both}
 use Rattle.pool.specs.Ipv4.{ipv4}
+use Rattle.pool.specs.Means.{routes_used}
+use Rattle.pool.proofs.Few.{no_more}
 use Rattle.audit.specs.Head.{HeadFine}
 use Rattle.shape.specs.Tree.{RootSays}
-use Rattle.places.specs.Marks.{is_used}
-use Rattle.places.specs.declared.Sort.{Sort}
 use Rattle.standing.specs.Changes.{ChangesFine, BackSays}
 use Rattle.shape.specs.declared.tree.RootAudit.{RootAudit}
 use Rattle.shape.proofs.Hanging.{refused}
-use Rattle.places.proofs.Tally.{tally_le}
+use Rattle.audit.proofs.Places.{routes_picked}
 use Rattle.audit.proofs.Sounding.{sound_fine, counts, decides}
 use Rattle.audit.proofs.audit.Goals as goal
 use Rattle.audit.proofs.audit.Goals.{Else-not-head_is_good, In-Fine}
@@ -54,12 +54,14 @@ returns-then-not-changes_are_good c =
 
 pub can_take_back-requires : goal.can_take_back-requires
 can_take_back-requires c =
-    let args = c.args in
-    let routes-fit = tally_le (is_used ipv4 args.capacity args.pool.now Sort.Route) args.capacity in record {
+    let (t, f, n, m) = root_says (goal.at.can_take_back-requires c).In-Fine in
+    let picked = routes_picked ipv4 _ _ t f in
+    let few = no_more c.args.capacity (routes_used t) picked.distinct picked.below in
+    record {
       fit = c.requires;
       standing_bound = (
         omega (arith, (head_fine (goal.at.can_take_back-requires c).Else-not-head_is_good).few, c.wide-standing.ensures),
-        omega (arith, routes-fit, c.used.ensures, c.if-used-routes.false),
+        omega (arith, few, n),
       );
     }
 
