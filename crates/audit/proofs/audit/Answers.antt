@@ -3,29 +3,28 @@
 use Prim.Native.Nat.{ℕ}
 use mathlib.Core.Path.{sym, subst, ◌∙◌}
 use native.Mathlib.Omega.{arith}
-use borrow.Author.Tests.{not-true, not-false}
 use Rattle.model.proofs.Tests.{not_both}
 use Rattle.pool.specs.Ipv4.{ipv4}
+use Rattle.pool.specs.Means.{routes_used}
+use Rattle.pool.proofs.Few.{no_more}
 use Rattle.audit.specs.Head.{HeadFine}
 use Rattle.shape.specs.Tree.{RootSays}
-use Rattle.places.specs.Marks.{is_used}
-use Rattle.places.specs.declared.Sort.{Sort}
 use Rattle.standing.specs.Changes.{ChangesFine, BackSays}
 use Rattle.shape.specs.declared.tree.RootAudit.{RootAudit}
 use Rattle.shape.proofs.Hanging.{refused}
-use Rattle.places.proofs.Tally.{tally_le}
+use Rattle.audit.proofs.Places.{routes_picked}
 use Rattle.audit.proofs.Sounding.{sound_fine, counts, decides}
 use Rattle.audit.proofs.audit.Goals as goal
 use Rattle.audit.proofs.audit.Goals.{Else-not-head_is_good, In-Fine}
 
 pub returns-then-not-head_is_good : goal.returns-then-not-head_is_good
-returns-then-not-head_is_good c = refused (λ s. not_both (c.head_is_good.ensures.1 (sound_fine ipv4 _ _ s).head) (not-true _ c.if-not-head_is_good.true))
+returns-then-not-head_is_good c = refused (λ s. not_both (c.head_is_good.ensures.1 (sound_fine ipv4 _ _ s).head) c.if-not-head_is_good.true)
 
 -- what the first two tests say
 head_fine : (c : Else-not-head_is_good) → HeadFine ipv4 c.args.capacity c.args.pool.now
-head_fine c = c.head_is_good.ensures.0 (not-false _ c.if-not-head_is_good.false)
+head_fine c = c.head_is_good.ensures.0 c.if-not-head_is_good.false
 
-root_says : (c : In-Fine) → let args = c.args in let counts-told = c.routes-1.given.0 in RootSays ipv4 args.capacity args.pool.now (RootAudit.Fine counts-told.0 counts-told.1.0)
+root_says : (c : In-Fine) → RootSays ipv4 c.args.capacity c.args.pool.now (RootAudit.Fine c.in-Fine.routes c.in-Fine.inners)
 root_says c = c.in-Fine.ensures
 
 pub returns-in_default : goal.returns-in_default
@@ -38,11 +37,11 @@ returns-then-wide-routes c = refused (λ s. c.if-wide-routes.true (c.wide.ensure
 
 pub returns-then-used-routes : goal.returns-then-used-routes
 returns-then-used-routes c =
-    refused (λ s. c.if-used-routes.true (c.used.ensures ∙ (counts ipv4 _ _ _ _ (root_says (goal.at.returns-then-used-routes c).In-Fine) s).1))
+    refused (λ s. let told = counts ipv4 _ _ _ _ (root_says (goal.at.returns-then-used-routes c).In-Fine) s in omega (arith, told.1, told.2))
 
 pub returns-then-used-inners : goal.returns-then-used-inners
 returns-then-used-inners c =
-    refused (λ s. c.if-used-inners.true (c.used-2.ensures ∙ (counts ipv4 _ _ _ _ (root_says (goal.at.returns-then-used-inners c).In-Fine) s).2))
+    refused (λ s. let told = counts ipv4 _ _ _ _ (root_says (goal.at.returns-then-used-inners c).In-Fine) s in omega (arith, told.1, told.2))
 
 pub changes_are_good-requires : goal.changes_are_good-requires
 changes_are_good-requires c = record { fit = c.requires; standing_bound = omega (arith, (head_fine (goal.at.changes_are_good-requires c).Else-not-head_is_good).few, c.wide-standing.ensures) }
@@ -51,16 +50,18 @@ pub returns-then-not-changes_are_good : goal.returns-then-not-changes_are_good
 returns-then-not-changes_are_good c =
     let good = c.changes_are_good.ensures.1 in
     let same = sym c.wide-standing.ensures in
-    refused (λ s. not_both (good (subst (ChangesFine ipv4 _ _) same (sound_fine ipv4 _ _ s).changes_fine)) (not-true _ c.if-not-changes_are_good.true))
+    refused (λ s. not_both (good (subst (ChangesFine ipv4 _ _) same (sound_fine ipv4 _ _ s).changes_fine)) c.if-not-changes_are_good.true)
 
 pub can_take_back-requires : goal.can_take_back-requires
 can_take_back-requires c =
-    let args = c.args in
-    let routes-fit = tally_le (is_used ipv4 args.capacity args.pool.now Sort.Route) args.capacity in record {
+    let (t, f, n, m) = root_says (goal.at.can_take_back-requires c).In-Fine in
+    let picked = routes_picked ipv4 _ _ t f in
+    let few = no_more c.args.capacity (routes_used t) picked.distinct picked.below in
+    record {
       fit = c.requires;
       standing_bound = (
         omega (arith, (head_fine (goal.at.can_take_back-requires c).Else-not-head_is_good).few, c.wide-standing.ensures),
-        omega (arith, routes-fit, c.used.ensures, c.if-used-routes.false),
+        omega (arith, few, n),
       );
     }
 
@@ -68,12 +69,12 @@ pub returns : goal.returns
 returns c =
     let args = c.args in
     let same = c.wide-standing.ensures in
-    let changes-fine = subst (ChangesFine ipv4 _ _) same (c.changes_are_good.ensures.0 (not-false _ c.if-not-changes_are_good.false)) in
+    let changes-fine = subst (ChangesFine ipv4 _ _) same (c.changes_are_good.ensures.0 c.if-not-changes_are_good.false) in
     let routes = c.in-Fine.routes in
     let back = c.can_take_back in
     let says = subst (λ (n : ℕ). BackSays ipv4 args.capacity args.pool.now n routes back.result) same back.ensures in
     decides ipv4 args.capacity args.pool.now _ _ (root_says (goal.at.returns c).In-Fine) c.requires (head_fine (goal.at.returns c).Else-not-head_is_good)
     (sym c.wide.ensures ∙ c.if-wide-routes.false)
-    (sym c.used.ensures ∙ c.if-used-routes.false)
-    (sym c.used-2.ensures ∙ c.if-used-inners.false)
+    (omega arith)
+    (omega arith)
     changes-fine back.result says

@@ -1,13 +1,10 @@
-use mathlib.Core.Path.{ap, subst}
+use mathlib.Core.Path.{ap}
 use native.Mathlib.Omega.{arith}
 use Rattle.model.specs.Ipv4.{Payload}
 use Rattle.model.specs.Routes.{Route}
 use Rattle.pool.specs.Ipv4.{ipv4}
-use Rattle.shape.specs.Chain.{HungSays}
-use Rattle.shape.specs.declared.chain.Hung.{Hung}
 use Rattle.shape.proofs.Hanging.{along_start, along_step, leaf_address, chain_bad, chain_fine}
 use Rattle.shape.proofs.chain.audit_chain.Goals as goal
-use Rattle.shape.proofs.chain.audit_chain.Goals.{In-Next}
 
 pub returns-then-capacity-first : goal.returns-then-capacity-first
 returns-then-capacity-first c a es f = omega (arith, (leaf_address ipv4 _ _ a _ es f).0)
@@ -25,17 +22,13 @@ returns-in_default c =
 pub overflow_add-routes : goal.overflow_add-routes
 overflow_add-routes c = omega arith
 
--- and what it says where it found a route
-next_says : (c : In-Next) → (let address = c.route_at-address.result.prefix.address in HungSays ipv4 c.args.capacity c.args.pool.now c.loop-link.link address c.loop-link.bound.0) (Hung.Next c.in-Next.next c.in-Next.shorter)
-next_says c = c.in-Next.ensures
-
 pub loop-link-smaller : goal.loop-link-smaller
-loop-link-smaller c = let (i, f, p, q) = next_says c in omega arith
+loop-link-smaller c = let (i, f, p, q) = c.in-Next.ensures in omega arith
 
 pub loop-link-preserved : goal.loop-link-preserved
 loop-link-preserved c =
     let goes_on = c.loop-link-test.true in
-    along_step ipv4 _ _ _ _ _ _ _ _ _ goes_on c.loop-link.invariant (next_says c)
+    along_step ipv4 _ _ _ _ _ _ _ _ _ goes_on c.loop-link.invariant c.in-Next.ensures
 
 pub returns : goal.returns
 returns c =

@@ -5,7 +5,6 @@ use mathlib.Core.Path.{◌≡◌, ap, sym, subst, ◌∙◌}
 use mathlib.Core.Bool.{true}
 use mathlib.Core.Logic.{◌↔◌}
 use native.Mathlib.Omega.{arith}
-use borrow.Author.Tests.{not-true, not-false}
 use Rattle.model.specs.Prefix.{well_formed}
 use Rattle.model.specs.Ipv4.{Payload, may_hold}
 use Rattle.model.specs.Routes.{Route}
@@ -27,26 +26,26 @@ there c =
     subst (λ (n : ℕ). (c.payload_there.result ≡ true) ↔ PayloadThere ipv4 pool n) c.seat.ensures c.payload_there.ensures
 
 pub returns-then-not-payload_there : goal.returns-then-not-payload_there
-returns-then-not-payload_there c = refused (λ f. not_both ((there (goal.at.returns-then-not-payload_there c).After-payload_there).1 (f.used, f.known)) (not-true _ c.if-not-payload_there.true))
+returns-then-not-payload_there c = refused (λ f. not_both ((there (goal.at.returns-then-not-payload_there c).After-payload_there).1 (f.used, f.known)) c.if-not-payload_there.true)
 
 pub returns-then-not-well_formed : goal.returns-then-not-well_formed
 returns-then-not-well_formed c =
     let formed = ap (λ (r : Route Payload). well_formed 32 r.prefix) c.route_at-route.ensures in
-    let fails = sym c.well_formed-2.ensures ∙ not-true _ c.if-not-well_formed.true in
+    let fails = sym c.well_formed-2.ensures ∙ c.if-not-well_formed.true in
     refused (λ f. not_both (formed ∙ f.obeys.0) fails)
 
 pub returns-then-not-may_be_held : goal.returns-then-not-may_be_held
 returns-then-not-may_be_held c =
     let holdable = ap (λ (r : Route Payload). may_hold r.prefix) c.route_at-route.ensures in
-    let fails = sym c.may_be_held.ensures ∙ not-true _ c.if-not-may_be_held.true in
+    let fails = sym c.may_be_held.ensures ∙ c.if-not-may_be_held.true in
     refused (λ f. not_both (holdable ∙ f.obeys.1) fails)
 
 pub returns : goal.returns
 returns c =
     let route = c.route_at-route.ensures in
-    let words = (there (goal.at.returns c).After-payload_there).0 (not-false _ c.if-not-payload_there.false) in
-    let formed = sym c.well_formed-2.ensures ∙ not-false _ c.if-not-well_formed.false in
-    let holdable = sym c.may_be_held.ensures ∙ not-false _ c.if-not-may_be_held.false in
+    let words = (there (goal.at.returns c).After-payload_there).0 c.if-not-payload_there.false in
+    let formed = sym c.well_formed-2.ensures ∙ c.if-not-well_formed.false in
+    let holdable = sym c.may_be_held.ensures ∙ c.if-not-may_be_held.false in
     let good = c.is_good.ensures ∙ ap (λ (r : Route Payload). good_payload ipv4.rules r.prefix r.payload) route in (
       λ t. record {
         in_pool = omega arith;

@@ -2,9 +2,7 @@
 -- Where no test fails, the place itself is the route that the link leads to.
 use Prim.Native.Nat.{ℕ, ◌<◌}
 use mathlib.Core.Path.{◌≡◌, ap, sym, subst, ◌∙◌}
-use mathlib.Core.Logic.{⊎_elim}
 use native.Mathlib.Omega.{arith}
-use borrow.Author.Tests.{not-true, not-false}
 use Rattle.model.specs.Ipv4.{Payload}
 use Rattle.model.specs.Routes.{Route}
 use Rattle.model.proofs.Tests.{not_both}
@@ -17,62 +15,69 @@ use Rattle.shape.proofs.chain.step.Goals as goal
 use Rattle.shape.proofs.chain.step.Goals.{After-route_at-route, Else-not-route_is_good, In-Route}
 
 pub returns-in_default : goal.returns-in_default
-returns-in_default c i f =
-    let e = c.link_from.ensures ∙ route_linked _ i f.linked in
-    ⊎_elim (λ z. omega arith) (λ z. omega arith) (rw e at c.in_default.keys2)
+returns-in_default c i f = c.in_default.not-Route _ (c.link_from.ensures ∙ route_linked _ i f.linked)
 
 -- the link leads to that place
-place_of : (c : In-Route) → c.args.link ≡ to_route (c.in-Route.place.0)
-place_of c =
-    let told = c.place-1.given in
-    route_from c.args.link told.0.0 (sym c.link_from.ensures ∙ told.1)
+place_of : (c : In-Route) → c.args.link ≡ to_route c.in-Route.place.0
+place_of c = route_from c.args.link c.in-Route.place (sym c.in-Route.ensures)
 
 -- and to no other
-same_place : (c : tie.After-known-told) (i : ℕ) → (entry c).args.link ≡ to_route i → i ≡ place c
+same_place : (c : In-Route) (i : ℕ) → c.args.link ≡ to_route i → i ≡ c.in-Route.place.0
 same_place c i u = let v = place_of c in omega arith
 
 pub returns-then-not-route_is_good : goal.returns-then-not-route_is_good
 returns-then-not-route_is_good c i f =
-    let same = same_place c.before.before i f.linked in
-    not_both (c.route_is_good.ensures.1 (subst (RouteFine ipv4 _ _) same f.fine)) (not-true _ c.if-not-route_is_good.true)
+    let same = same_place (goal.at.returns-then-not-route_is_good c).In-Route i f.linked in
+    not_both (c.route_is_good.ensures.1 (subst (RouteFine ipv4 _ _) same f.fine)) c.if-not-route_is_good.true
 
 -- the route there is fine
-fine : (c : Else-not-route_is_good) → RouteFine ipv4 c.args.capacity (c.args.pool.now) (c.in-Route.place.0)
-fine c = c.route_is_good.ensures.0 (not-false _ c.if-not-route_is_good.false)
+fine : (c : Else-not-route_is_good) → RouteFine ipv4 c.args.capacity c.args.pool.now c.in-Route.place.0
+fine c = c.route_is_good.ensures.0 c.if-not-route_is_good.false
 
 pub route_at-route-requires : goal.route_at-route-requires
-route_at-route-requires c = let f = fine c in omega arith
+route_at-route-requires c =
+    let f = fine (goal.at.route_at-route-requires c).Else-not-route_is_good in
+    omega arith
 
 -- its address and its length are those of the place
-address_read : (c : After-route_at-route) → c.route_at-route.result.prefix.address ≡ address_at ipv4 (c.args.pool.now) (c.in-Route.place.0)
+address_read : (c : After-route_at-route) → c.route_at-route.result.prefix.address ≡ address_at ipv4 c.args.pool.now c.in-Route.place.0
 address_read c = ap (λ (r : Route Payload). r.prefix.address) c.route_at-route.ensures
 
-length_read : (c : After-route_at-route) → c.route_at-route.result.prefix.length.0 ≡ length_at ipv4 (c.args.pool.now) (c.in-Route.place.0)
+length_read : (c : After-route_at-route) → c.route_at-route.result.prefix.length.0 ≡ length_at ipv4 c.args.pool.now c.in-Route.place.0
 length_read c = ap (λ (r : Route Payload). r.prefix.length) c.route_at-route.ensures
 
 pub returns-then-prefix-address : goal.returns-then-prefix-address
 returns-then-prefix-address c i f =
-    let same = same_place place'1 i f.linked in
-    c.if-prefix-address.true (address_read (goal.at.returns-then-prefix-address c).After-route_at-route ∙ ap (address_at ipv4 (c.args.pool.now)) (sym same) ∙ f.address)
+    let same = same_place (goal.at.returns-then-prefix-address c).In-Route i f.linked in
+    c.if-prefix-address.true
+    (address_read (goal.at.returns-then-prefix-address c).After-route_at-route
+    ∙ ap (address_at ipv4 c.args.pool.now) (sym same)
+    ∙ f.address)
 
 pub returns-then-bound-length : goal.returns-then-bound-length
 returns-then-bound-length c i f =
-    let same = same_place place'1 i f.linked in
-    let n = length_read (goal.at.returns-then-bound-length c).After-route_at-route ∙ ap (length_at ipv4 (c.args.pool.now)) (sym same) in
+    let same = same_place (goal.at.returns-then-bound-length c).In-Route i f.linked in
+    let n =
+    length_read (goal.at.returns-then-bound-length c).After-route_at-route
+    ∙ ap (length_at ipv4 c.args.pool.now) (sym same) in
     omega arith
 
 pub next_at-requires : goal.next_at-requires
-next_at-requires c = let f = fine (goal.at.next_at-requires c).Else-not-route_is_good in omega arith
+next_at-requires c =
+    let f = fine (goal.at.next_at-requires c).Else-not-route_is_good in
+    omega arith
 
 pub returns : goal.returns
-returns c = (
-  (c.in-Route.place.0),
-  record {
-    linked = place_of (goal.at.returns c).In-Route;
-    fine = fine (goal.at.returns c).Else-not-route_is_good;
-    address = sym (address_read (goal.at.returns c).After-route_at-route) ∙ c.if-prefix-address.false;
-    shorter = subst (λ (x : ℕ). x < c.args.bound.0) (length_read (goal.at.returns c).After-route_at-route) c.if-bound-length.false;
-  },
-  c.next_at.ensures,
-  length_read (goal.at.returns c).After-route_at-route,
-)
+returns c =
+    let read = (goal.at.returns c).After-route_at-route in (
+      c.in-Route.place.0,
+      record {
+        linked = place_of (goal.at.returns c).In-Route;
+        fine = fine (goal.at.returns c).Else-not-route_is_good;
+        address = sym (address_read read) ∙ c.if-prefix-address.false;
+        shorter =
+            subst (λ (x : ℕ). x < c.args.bound.0) (length_read read) c.if-bound-length.false;
+      },
+      c.next_at.ensures,
+      length_read read,
+    )

@@ -1,9 +1,7 @@
 -- A root link of 0 is the empty tree: `root_none`. Else the tree at the root link is audited, and what is said of it there is what is
 -- said of the root: `root_bad` or `root_fine`.
-use mathlib.Core.Path.{refl, subst}
-use Rattle.pool.specs.Layout.{root_in}
+use mathlib.Core.Path.{refl}
 use Rattle.pool.specs.Ipv4.{ipv4}
-use Rattle.shape.specs.Tree.{TreeSays}
 use Rattle.shape.proofs.Grown.{root_none, root_bad, root_fine}
 use Rattle.shape.proofs.tree.audit_root.Goals as goal
 

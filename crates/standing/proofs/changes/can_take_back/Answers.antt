@@ -6,11 +6,8 @@ use native.Mathlib.Omega.{arith}
 use Rattle.model.specs.Routes.{Route}
 use Rattle.model.specs.Ipv4.{Payload}
 use Rattle.pool.specs.Ipv4.{ipv4}
-use Rattle.standing.specs.Changes.{TakenSays}
-use Rattle.standing.specs.declared.changes.Taken.{Taken}
 use Rattle.standing.proofs.Turning.{Standing, standing_start, standing_step, standing_stop, standing_end}
 use Rattle.standing.proofs.changes.can_take_back.Goals as goal
-use Rattle.standing.proofs.changes.can_take_back.Goals.{In-Held}
 
 pub loop-left-init : goal.loop-left-init
 loop-left-init c = (omega arith, omega arith, λ l t e. standing_start ipv4 _ _ _ _ l e)
@@ -19,7 +16,11 @@ pub overflow_sub-change : goal.overflow_sub-change
 overflow_sub-change c = omega arith
 
 pub take_back-requires : goal.take_back-requires
-take_back-requires c = (c.requires.fit, ((omega arith, omega arith), omega arith))
+take_back-requires c = record {
+  fit = c.requires.fit;
+  standing_bound = (omega arith, omega arith);
+  held_le_capacity = omega arith;
+}
 
 pub returns-in_default : goal.returns-in_default
 returns-in_default c l t e =
@@ -30,20 +31,17 @@ returns-in_default c l t e =
     let s = subst (λ (m : ℕ). Standing ipv4 args.capacity args.pool.now args.standing m loop.held l) one (loop.invariant.2 l t e) in
     (λ z. absurd (false≢true z), λ u. absurd (standing_stop ipv4 _ _ _ _ _ l t bad s u))
 
--- so many are left when one more is taken back
-taken : (c : In-Held) → let loop = c.loop-left in let args = c.args in TakenSays ipv4 args.capacity args.pool.now args.standing (loop.left - 1) loop.held (Taken.Held c.in-Held.now_held)
-taken c = c.in-Held.ensures
-
 pub loop-left-smaller : goal.loop-left-smaller
 loop-left-smaller c = omega arith
 
 pub loop-left-preserved : goal.loop-left-preserved
 loop-left-preserved c =
+    let taken = c.in-Held.ensures in
     let loop = c.loop-left in
     let args = c.args in
     let one : loop.left ≡ suc (loop.left - 1) = omega arith in
     let Left : List (Route Payload) → ℕ → Type 0 = λ l m. Standing ipv4 args.capacity args.pool.now args.standing m loop.held l in
-    (omega arith, (taken c).0, λ l t e. standing_step ipv4 _ _ _ _ _ _ l (omega arith) t (taken c) (subst (Left l) one (loop.invariant.2 l t e)))
+    (omega arith, taken.0, λ l t e. standing_step ipv4 _ _ _ _ _ _ l (omega arith) t taken (subst (Left l) one (loop.invariant.2 l t e)))
 
 pub returns : goal.returns
 returns c l t e =

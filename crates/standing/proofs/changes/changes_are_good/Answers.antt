@@ -1,7 +1,5 @@
-use Prim.Native.Nat.{◌-◌}
 use mathlib.Core.Path.{◌≡◌, refl, subst}
 use native.Mathlib.Omega.{arith}
-use borrow.Author.Tests.{not-true, not-false}
 use Rattle.model.proofs.Tests.{not_both}
 use Rattle.pool.specs.Ipv4.{ipv4}
 use Rattle.standing.specs.Changes.{ChangesFine}
@@ -14,7 +12,7 @@ loop-k-init c = (omega arith, λ k h. absurd (omega (arith, h)))
 
 pub returns-then-not-change_is_good : goal.returns-then-not-change_is_good
 returns-then-not-change_is_good c =
-    refused (λ f. not_both (c.change_is_good.ensures.1 (f c.loop-k.k c.loop-k-test.true)) (not-true _ c.if-not-change_is_good.true))
+    refused (λ f. not_both (c.change_is_good.ensures.1 (f c.loop-k.k c.loop-k-test.true)) c.if-not-change_is_good.true)
 
 pub overflow_add-k : goal.overflow_add-k
 overflow_add-k c = omega arith
@@ -24,7 +22,7 @@ loop-k-smaller c = omega arith
 
 pub loop-k-preserved : goal.loop-k-preserved
 loop-k-preserved c =
-    (omega arith, changes_more ipv4 _ _ _ c.loop-k.invariant.1 (c.change_is_good.ensures.0 (not-false _ c.if-not-change_is_good.false)))
+    (omega arith, changes_more ipv4 _ _ _ c.loop-k.invariant.1 (c.change_is_good.ensures.0 c.if-not-change_is_good.false))
 
 pub returns : goal.returns
 returns c =

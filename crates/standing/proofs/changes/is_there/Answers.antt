@@ -1,4 +1,4 @@
-use Prim.Native.Nat.{ℕ, ◌+◌, ◌-◌}
+use Prim.Native.Nat.{ℕ, ◌+◌}
 use mathlib.Core.Path.{◌≡◌, sym, ap, subst, ◌∙◌}
 use mathlib.Core.Bool.{not}
 use native.Mathlib.Omega.{arith}
@@ -41,7 +41,7 @@ compared c =
     let read = c.prefix_at-other in
     let other = read.ensures ∙ ap (λ (n : ℕ). prefix_at ipv4 args.pool.now (n + 1)) c.slot-at.ensures in
     c.is.ensures
-    ∙ ap (λ (p : Prefix). same p (prefix_of read.result)) ((let own' : let args = c.args in prefix_of c.prefix_at-prefix.result ≡ changed_at ipv4 args.capacity args.pool.now args.change = c.prefix_at-prefix.ensures ∙ ap (λ (n : ℕ). prefix_at ipv4 c.args.pool.now (n + 1)) c.slot.ensures in own'))
+    ∙ ap (λ (p : Prefix). same p (prefix_of read.result)) (c.prefix_at-prefix.ensures ∙ ap (λ (n : ℕ). prefix_at ipv4 c.args.pool.now (n + 1)) c.slot.ensures)
     ∙ ap (same (changed_at ipv4 args.capacity args.pool.now args.change)) other
 
 pub returns-then-is : goal.returns-then-is

@@ -1,6 +1,5 @@
 -- What a change leaves held when it is taken back, by its action and by whether its route is there (`is_there`): one law for each return.
 use mathlib.Core.Path.{◌≡◌, sym, ap, ◌∙◌}
-use borrow.Author.Tests.{not-true, not-false}
 use Rattle.pool.specs.Layout.{word, action_at}
 use Rattle.pool.specs.Ipv4.{ipv4}
 use Rattle.standing.proofs.Turning.{delete_there, delete_full, delete_held, gone, change_held, add_none, add_held}
@@ -28,12 +27,12 @@ returns-then-action-eq2 c =
 pub returns-then-not-there : goal.returns-then-not-there
 returns-then-not-there c =
     gone ipv4 _ _ _ _ _ _ c.is_there-there.ensures (λ e. c.if-action-eq2.false (action_there (goal.at.returns-then-not-there c).After-is_there-there ∙ e))
-    (not-true _ c.if-not-there.true)
+    c.if-not-there.true
 
 pub returns-then-action-ne1 : goal.returns-then-action-ne1
 returns-then-action-ne1 c =
     change_held ipv4 _ _ _ _ _ _ c.is_there-there.ensures (λ e. c.if-action-eq2.false (action_there (goal.at.returns-then-action-ne1 c).After-is_there-there ∙ e))
-    (λ e. c.if-action-ne1.true (action_there (goal.at.returns-then-action-ne1 c).After-is_there-there ∙ e)) (not-false _ c.if-not-there.false) c.requires.standing_bound.1
+    (λ e. c.if-action-ne1.true (action_there (goal.at.returns-then-action-ne1 c).After-is_there-there ∙ e)) c.if-not-there.false c.requires.held_le_capacity
 
 pub returns-then-held-eq0 : goal.returns-then-held-eq0
 returns-then-held-eq0 c =
@@ -42,4 +41,4 @@ returns-then-held-eq0 c =
 pub returns : goal.returns
 returns c =
     add_held ipv4 _ _ _ _ _ _ c.is_there-there.ensures (sym (action_there (goal.at.returns c).After-is_there-there) ∙ c.if-action-ne1.false)
-    (not-false _ c.if-not-there.false) c.if-held-eq0.false c.requires.standing_bound.1
+    c.if-not-there.false c.if-held-eq0.false c.requires.held_le_capacity
