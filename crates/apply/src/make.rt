@@ -34,7 +34,8 @@ fn note(pool: &mut [u32], capacity: usize, action: u32, prefix: Prefix, old: Pay
     requires pool_bound { layout.trial_in pool.old ≡ 1 → layout.standing_in pool.old < 64 }
     ensures { Noted ipv4 capacity action (prefix_of prefix) (payload_of old) (payload_of new) pool.old pool.new }
 {
-    if pool[pool::AT_TRIAL] == 1 {
+    let is_open = pool[pool::AT_TRIAL] == 1;
+    if is_open {
         trial_rows::record_change(pool, capacity, action, prefix, old, new);
     }
 }

@@ -54,7 +54,8 @@ pub fn mask_length(mask: u32) -> MaskAnswer
     ensures { result ≡ mask_answer mask }
 {
     let ones = u32::count_ones(mask);
-    if ones + u32::trailing_zeros(mask) == 32 {
+    let is_good = ones + u32::trailing_zeros(mask) == 32;
+    if is_good {
         MaskAnswer::Length(ones)
     } else {
         MaskAnswer::Holed

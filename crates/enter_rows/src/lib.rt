@@ -69,7 +69,8 @@ fn sides(address: u32, index: u32, leaf: u32, other: u32) -> Both
     requires { index < 32 }
     ensures { (result.0 ≡ toward (bit 32 index address) leaf other) × (result.1 ≡ toward (bit 32 index address) other leaf) }
 {
-    if bits::bit_of(address, index) == 0 {
+    let on_left = bits::bit_of(address, index) == 0;
+    if on_left {
         Both(leaf, other)
     } else {
         Both(other, leaf)

@@ -51,7 +51,8 @@ pub fn free(pool: &[u32], capacity: usize, sort: Sort) -> Place
 {
     let mut at: usize = 0;
     while at < capacity {
-        if mark_of(pool, capacity, sort, Place(at)) == 0 {
+        let is_free = mark_of(pool, capacity, sort, Place(at)) == 0;
+        if is_free {
             return Place(at);
         }
         at += 1;

@@ -125,7 +125,8 @@ fn plan_lone(
     let node = Place(inner[above]);
     let mark = pool::mark_at(pool, capacity, node);
     let up = cell_of(pool, capacity, inner, above, address);
-    if bits::bit_of(address, mark - 1) == 0 {
+    let on_left = bits::bit_of(address, mark - 1) == 0;
+    if on_left {
         TakePlan::Leaf(up, node, pool::right_at(pool, capacity, node), place)
     } else {
         TakePlan::Leaf(up, node, pool::left_at(pool, capacity, node), place)

@@ -25,7 +25,8 @@ impl Origin {
         match self {
             Origin::Fixed => true,
             Origin::Learned(metric) => {
-                if metric.0 == 0 {
+                let zero = metric.0 == 0;
+                if zero {
                     false
                 } else {
                     metric.0 <= LAST_METRIC

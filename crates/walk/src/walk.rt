@@ -27,7 +27,8 @@ pub fn first(pool: &[u32], capacity: usize) -> Found
     ensures { Firsts ipv4 capacity pool.now (found_number result) (found_value result) }
 {
     let link = pool[pool::AT_ROOT];
-    if link == 0 {
+    let is_empty = link == 0;
+    if is_empty {
         return Found::Refused(Refusal::NoFurther);
     }
     front(pool, capacity, link)

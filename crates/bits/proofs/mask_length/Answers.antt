@@ -6,15 +6,15 @@ use Rattle.bits.specs.Answer.{mask_answer}
 use Rattle.bits.proofs.Mask.{ones_all, ones_trailing}
 use Rattle.bits.proofs.mask_length.Goals as goal
 
-pub overflow_add-ones : goal.overflow_add-ones
-overflow_add-ones c =
+pub overflow_add-is_good : goal.overflow_add-is_good
+overflow_add-is_good c =
     let m = c.args.mask in
     omega (arith, ones_all 32 m c.ranges.mask.fits, ones_trailing 32 m)
 
-pub returns-then-ones-mask-eq32 : goal.returns-then-ones-mask-eq32
+pub returns-then-is_good : goal.returns-then-is_good
 unfolding mask_answer good_mask mask_length
-returns-then-ones-mask-eq32 c = simp (ones_all 32 c.args.mask c.ranges.mask.fits, eq-eqb _ _ c.if-ones-mask-eq32.true)
+returns-then-is_good c = simp (ones_all 32 c.args.mask c.ranges.mask.fits, eq-eqb _ _ c.if-is_good.true)
 
-pub returns-else-ones-mask-eq32 : goal.returns-else-ones-mask-eq32
+pub returns-else-is_good : goal.returns-else-is_good
 unfolding mask_answer good_mask mask_length
-returns-else-ones-mask-eq32 c = simp (ones_all 32 c.args.mask c.ranges.mask.fits, ne_eqb _ _ c.if-ones-mask-eq32.false)
+returns-else-is_good c = simp (ones_all 32 c.args.mask c.ranges.mask.fits, ne_eqb _ _ c.if-is_good.false)

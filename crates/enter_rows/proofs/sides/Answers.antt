@@ -5,15 +5,15 @@ use Rattle.bits.specs.Address.{bit}
 use Rattle.bits.proofs.First.{bit_lt}
 use Rattle.enter_rows.proofs.sides.Goals as goal
 
-pub returns-then-bit_of-eq0 : goal.returns-then-bit_of-eq0
-returns-then-bit_of-eq0 c =
+pub returns-then-on_left : goal.returns-then-on_left
+returns-then-on_left c =
     let args = c.args in
-    let zero : bit 32 args.index args.address ≡ 0 = sym c.bit_of.ensures ∙ c.if-bit_of-eq0.true in
+    let zero : bit 32 args.index args.address ≡ 0 = sym c.bit_of-on_left.ensures ∙ c.if-on_left.true in
     rw zero (refl, refl)
 
-pub returns-else-bit_of-eq0 : goal.returns-else-bit_of-eq0
-returns-else-bit_of-eq0 c =
+pub returns-else-on_left : goal.returns-else-on_left
+returns-else-on_left c =
     let args = c.args in
     let below = bit_lt 32 args.index args.address in
-    let one : bit 32 args.index args.address ≡ 1 = omega (arith, c.bit_of.ensures, below, c.if-bit_of-eq0.false) in
+    let one : bit 32 args.index args.address ≡ 1 = omega (arith, c.bit_of-on_left.ensures, below, c.if-on_left.false) in
     rw one (refl, refl)

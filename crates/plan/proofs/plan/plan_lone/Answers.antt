@@ -14,14 +14,14 @@ use Rattle.search.proofs.Sight.{take_left, take_right}
 use Rattle.plan.proofs.CellAt.{fewer, last_usable}
 use Rattle.plan.proofs.TakePlanned.{lone_last, lone_leaf}
 use Rattle.plan.proofs.plan.plan_lone.Goals as goal
-use Rattle.plan.proofs.plan.plan_lone.Goals.{After-bit_of, Else-depth-eq0}
+use Rattle.plan.proofs.plan.plan_lone.Goals.{After-bit_of-on_left, Else-depth-eq0}
 
 -- the last place of the way can be used
 last : (c : Else-depth-eq0) → Usable ipv4 c.args.capacity c.args.pool.now (get_or c.args.inner (c.args.depth - 1) 0)
 last c = last_usable ipv4 laid4 _ _ _ _ c.if-depth-eq0.false c.requires.way_usable
 
-side : (c : After-bit_of) → c.bit_of.result ≡ bit 32 ((mark_at ipv4 c.args.capacity c.args.pool.now (get_or c.args.inner (c.args.depth - 1) 0)) - 1) c.args.address
-side c = c.bit_of.ensures ∙ ap (λ (m : ℕ). bit 32 (m - 1) c.args.address) c.mark_at-mark.ensures
+side : (c : After-bit_of-on_left) → c.bit_of-on_left.result ≡ bit 32 ((mark_at ipv4 c.args.capacity c.args.pool.now (get_or c.args.inner (c.args.depth - 1) 0)) - 1) c.args.address
+side c = c.bit_of-on_left.ensures ∙ ap (λ (m : ℕ). bit 32 (m - 1) c.args.address) c.mark_at-mark.ensures
 
 pub returns-then-depth-eq0 : goal.returns-then-depth-eq0
 returns-then-depth-eq0 c = lone_last ipv4 laid4 _ _ _ _ _ _ c.requires.place_lt_capacity c.if-depth-eq0.true
@@ -36,8 +36,8 @@ cell_of-up-requires c =
 pub overflow_sub-mark : goal.overflow_sub-mark
 overflow_sub-mark c = let u = last (goal.at.overflow_sub-mark c).Else-depth-eq0 in omega arith
 
-pub bit_of-requires : goal.bit_of-requires
-bit_of-requires c = let u = last (goal.at.bit_of-requires c).Else-depth-eq0 in omega arith
+pub bit_of-on_left-requires : goal.bit_of-on_left-requires
+bit_of-on_left-requires c = let u = last (goal.at.bit_of-on_left-requires c).Else-depth-eq0 in omega arith
 
 pub right_at-requires : goal.right_at-requires
 right_at-requires c = let u = last (goal.at.right_at-requires c).Else-depth-eq0 in omega arith
@@ -45,13 +45,13 @@ right_at-requires c = let u = last (goal.at.right_at-requires c).Else-depth-eq0 
 pub left_at-requires : goal.left_at-requires
 left_at-requires c = let u = last (goal.at.left_at-requires c).Else-depth-eq0 in omega arith
 
-pub returns-then-bit_of-eq0 : goal.returns-then-bit_of-eq0
-returns-then-bit_of-eq0 c =
-    let sibling = take_left _ _ _ _ (sym (side (goal.at.returns-then-bit_of-eq0 c).After-bit_of) ∙ c.if-bit_of-eq0.true) c.right_at.ensures in
+pub returns-then-on_left : goal.returns-then-on_left
+returns-then-on_left c =
+    let sibling = take_left _ _ _ _ (sym (side (goal.at.returns-then-on_left c).After-bit_of-on_left) ∙ c.if-on_left.true) c.right_at.ensures in
     lone_leaf ipv4 laid4 _ _ _ _ _ _ c.requires.place_lt_capacity _ _ _ c.if-depth-eq0.false c.requires.way_usable c.cell_of-up.ensures refl sibling
 
-pub returns-else-bit_of-eq0 : goal.returns-else-bit_of-eq0
-returns-else-bit_of-eq0 c =
+pub returns-else-on_left : goal.returns-else-on_left
+returns-else-on_left c =
     let one = bit_lt 32 _ c.args.address in
     lone_leaf ipv4 laid4 _ _ _ _ _ _ c.requires.place_lt_capacity _ _ _ c.if-depth-eq0.false c.requires.way_usable c.cell_of-up.ensures refl
-    (take_right _ _ _ _ one (λ z. c.if-bit_of-eq0.false (side (goal.at.returns-else-bit_of-eq0 c).After-bit_of ∙ z)) c.left_at.ensures)
+    (take_right _ _ _ _ one (λ z. c.if-on_left.false (side (goal.at.returns-else-on_left c).After-bit_of-on_left ∙ z)) c.left_at.ensures)

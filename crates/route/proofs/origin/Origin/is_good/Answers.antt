@@ -11,12 +11,12 @@ pub returns-in-Fixed : goal.returns-in-Fixed
 unfolding good_metric
 returns-in-Fixed c = sym (ap (λ (o : Origin). good_metric (origin_of o)) c.in-Fixed.is)
 
-pub returns-then-metric-eq0 : goal.returns-then-metric-eq0
-returns-then-metric-eq0 c =
+pub returns-then-zero : goal.returns-then-zero
+returns-then-zero c =
     let told = c.in-Learned.is in
-    metric_zero _ c.if-metric-eq0.true ∙ sym (ap (λ (o : Origin). good_metric (origin_of o)) told)
+    metric_zero _ c.if-zero.true ∙ sym (ap (λ (o : Origin). good_metric (origin_of o)) told)
 
-pub returns-else-metric-eq0 : goal.returns-else-metric-eq0
-returns-else-metric-eq0 c =
+pub returns-else-zero : goal.returns-else-zero
+returns-else-zero c =
     let told = c.in-Learned.is in
-    metric_some _ c.if-metric-eq0.false ∙ sym (ap (λ (o : Origin). good_metric (origin_of o)) told)
+    metric_some _ c.if-zero.false ∙ sym (ap (λ (o : Origin). good_metric (origin_of o)) told)
