@@ -33,7 +33,8 @@ returns-in_default c =
     refused (λ s. let f = sound_fine ipv4 _ _ s in bad f.tree f.root)
 
 pub returns-then-wide-routes : goal.returns-then-wide-routes
-returns-then-wide-routes c = refused (λ s. c.if-wide-routes.true (c.wide.ensures ∙ (counts ipv4 _ _ _ _ (root_says (goal.at.returns-then-wide-routes c).In-Fine) s).0))
+returns-then-wide-routes c =
+    refused (λ s. c.if-wide-routes.true (c.wide.ensures ∙ (counts ipv4 _ _ _ _ (root_says (goal.at.returns-then-wide-routes c).In-Fine) s).0))
 
 pub returns-then-used-routes : goal.returns-then-used-routes
 returns-then-used-routes c =
@@ -44,7 +45,10 @@ returns-then-used-inners c =
     refused (λ s. let told = counts ipv4 _ _ _ _ (root_says (goal.at.returns-then-used-inners c).In-Fine) s in omega (arith, told.1, told.2))
 
 pub changes_are_good-requires : goal.changes_are_good-requires
-changes_are_good-requires c = record { fit = c.requires; standing_bound = omega (arith, (head_fine (goal.at.changes_are_good-requires c).Else-not-head_is_good).few, c.wide-standing.ensures) }
+changes_are_good-requires c = record {
+  fit = c.requires;
+  standing_bound = omega (arith, (head_fine (goal.at.changes_are_good-requires c).Else-not-head_is_good).few, c.wide-standing.ensures);
+}
 
 pub returns-then-not-changes_are_good : goal.returns-then-not-changes_are_good
 returns-then-not-changes_are_good c =

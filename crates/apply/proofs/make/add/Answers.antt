@@ -10,7 +10,11 @@ put_in-requires c = record { fit = c.requires.fit; to_put = (c.requires.accepted
 
 pub note-requires : goal.note-requires
 note-requires c =
-    let a = c.requires.accepted.1 in record { fit = search rules; pool_bound = add_slot ipv4 laid4 _ _ _ _ a _ (c.put_in.ensures _ (add_to_put ipv4 laid4 _ _ _ _ a)) }
+    let a = c.requires.accepted.1 in
+    record {
+      fit = search rules;
+      pool_bound = add_slot ipv4 laid4 _ _ _ _ a _ (c.put_in.ensures _ (add_to_put ipv4 laid4 _ _ _ _ a));
+    }
 
 pub returns : goal.returns
 returns c =

@@ -10,7 +10,11 @@ swap-requires c = record { fit = c.requires.fit; to_take = (c.requires.accepted.
 
 pub note-requires : goal.note-requires
 note-requires c =
-    let a = c.requires.accepted.1 in record { fit = search rules; pool_bound = change_slot ipv4 laid4 _ _ _ _ a _ (c.swap.ensures _ (change_to_take ipv4 laid4 _ _ _ _ a)) }
+    let a = c.requires.accepted.1 in
+    record {
+      fit = search rules;
+      pool_bound = change_slot ipv4 laid4 _ _ _ _ a _ (c.swap.ensures _ (change_to_take ipv4 laid4 _ _ _ _ a));
+    }
 
 pub returns : goal.returns
 returns c =

@@ -40,7 +40,8 @@ usable : (c : In-At) → Usable ipv4 c.args.capacity c.args.pool.now (get_or c.a
 usable c = c.climb.invariant.1 c.in-At.below (rose c).0
 
 -- the leaf that its left side leads to
-edge : (c : After-leftmost) → let left = left_at ipv4 c.args.capacity c.args.pool.now (get_or c.args.way.inner c.in-At.below 0) in Leftmost ipv4 c.args.capacity c.args.pool.now left c.leftmost.result
+edge : (c : After-leftmost) →
+    let left = left_at ipv4 c.args.capacity c.args.pool.now (get_or c.args.way.inner c.in-At.below 0) in Leftmost ipv4 c.args.capacity c.args.pool.now left c.leftmost.result
 edge c =
     subst (λ (n : ℕ). Leftmost ipv4 c.args.capacity c.args.pool.now n c.leftmost.result) c.left_at.ensures c.leftmost.ensures
 

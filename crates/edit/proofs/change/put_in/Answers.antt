@@ -29,7 +29,11 @@ put_joined-requires c =
     let told = c.in-Join.is in
     let cell_in = subst (PutInPool _ _) told c.plan_put.ensures.put_in_pool in
     let plan = subst (PutRight ipv4 _ _ _) told c.plan_put.ensures.put_right in
-    let low = joins_low ipv4 laid4 _ _ _ _ c.requires.to_put.1 _ _ plan in record { next_offset_in_bounds = (omega (arith, words.1, free), omega (arith, words.0, free), put_count ipv4 laid4 _ _ _ _ c.requires.to_put.1 words, cell_in.0); inner_in_bounds = (omega (arith, words.1, inner), words.0, omega (arith, words.0, inner), low) }
+    let low = joins_low ipv4 laid4 _ _ _ _ c.requires.to_put.1 _ _ plan in
+    record {
+      next_offset_in_bounds = (omega (arith, words.1, free), omega (arith, words.0, free), put_count ipv4 laid4 _ _ _ _ c.requires.to_put.1 words, cell_in.0);
+      inner_in_bounds = (omega (arith, words.1, inner), words.0, omega (arith, words.0, inner), low);
+    }
 
 pub returns-in-First : goal.returns-in-First
 returns-in-First c =

@@ -17,7 +17,11 @@ take_link-requires c =
 pub take_leaf-requires : goal.take_leaf-requires
 take_leaf-requires c =
     let u = c.requires.fit in
-    let v = c.in-Leaf.ensures.in_pool in record { next_offset_in_bounds = (omega (arith, u.1, v.2), omega (arith, u.0, v.2), count_some ipv4 laid4 _ _ _ _ c.requires.to_take.1, v.0); inner_in_bounds = (omega (arith, u.1, v.1), u.0, omega (arith, u.0, v.1)) }
+    let v = c.in-Leaf.ensures.in_pool in
+    record {
+      next_offset_in_bounds = (omega (arith, u.1, v.2), omega (arith, u.0, v.2), count_some ipv4 laid4 _ _ _ _ c.requires.to_take.1, v.0);
+      inner_in_bounds = (omega (arith, u.1, v.1), u.0, omega (arith, u.0, v.1));
+    }
 
 pub take_last-requires : goal.take_last-requires
 take_last-requires c =

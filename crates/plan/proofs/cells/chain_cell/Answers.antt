@@ -11,8 +11,10 @@ use Rattle.plan.proofs.cells.chain_cell.Goals as goal
 use Rattle.plan.proofs.cells.chain_cell.Goals.{After-follow, After-prefix_at-held}
 
 -- the length that was read
-held : (c : After-prefix_at-held) → c.prefix_at-held.result.length.0 ≡ (prefix_at ipv4 c.args.pool.now (ipv4.seat c.loop-length.place.0 + ipv4.prefix_offset)).length
-held c = ap (λ (p : Prefix). p.length) c.prefix_at-held.ensures ∙ ap (λ (seat : ℕ). (prefix_at ipv4 c.args.pool.now (seat + ipv4.prefix_offset)).length) c.seat.ensures
+held : (c : After-prefix_at-held) →
+    c.prefix_at-held.result.length.0 ≡ (prefix_at ipv4 c.args.pool.now (ipv4.seat c.loop-length.place.0 + ipv4.prefix_offset)).length
+held c =
+    ap (λ (p : Prefix). p.length) c.prefix_at-held.ensures ∙ ap (λ (seat : ℕ). (prefix_at ipv4 c.args.pool.now (seat + ipv4.prefix_offset)).length) c.seat.ensures
 
 -- it is longer
 passed : (c : After-follow) → c.args.length.0 < (prefix_at ipv4 c.args.pool.now (ipv4.seat c.loop-length.place.0 + ipv4.prefix_offset)).length

@@ -9,7 +9,11 @@ use Rattle.plan.proofs.plan.held_at.Goals as goal
 
 pub hung_at-requires : goal.hung_at-requires
 hung_at-requires c =
-    let first-inside = subst (EndInPool _) c.in-Leaf.is c.down-way.ensures.end_in_pool in record { fit = c.requires; first_lt_capacity = (first-inside, c.cell_of-from.ensures.in_pool) }
+    let first-inside = subst (EndInPool _) c.in-Leaf.is c.down-way.ensures.end_in_pool in
+    record {
+      fit = c.requires;
+      first_lt_capacity = (first-inside, c.cell_of-from.ensures.in_pool);
+    }
 
 pub returns-in-Leaf : goal.returns-in-Leaf
 returns-in-Leaf c =

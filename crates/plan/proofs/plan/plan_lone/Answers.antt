@@ -20,7 +20,8 @@ use Rattle.plan.proofs.plan.plan_lone.Goals.{After-bit_of-on_left, Else-depth-eq
 last : (c : Else-depth-eq0) → Usable ipv4 c.args.capacity c.args.pool.now (get_or c.args.inner (c.args.depth - 1) 0)
 last c = last_usable ipv4 laid4 _ _ _ _ c.if-depth-eq0.false c.requires.way_usable
 
-side : (c : After-bit_of-on_left) → c.bit_of-on_left.result ≡ bit 32 ((mark_at ipv4 c.args.capacity c.args.pool.now (get_or c.args.inner (c.args.depth - 1) 0)) - 1) c.args.address
+side : (c : After-bit_of-on_left) →
+    c.bit_of-on_left.result ≡ bit 32 ((mark_at ipv4 c.args.capacity c.args.pool.now (get_or c.args.inner (c.args.depth - 1) 0)) - 1) c.args.address
 side c = c.bit_of-on_left.ensures ∙ ap (λ (m : ℕ). bit 32 (m - 1) c.args.address) c.mark_at-mark.ensures
 
 pub returns-then-depth-eq0 : goal.returns-then-depth-eq0

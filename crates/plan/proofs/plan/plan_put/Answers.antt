@@ -18,8 +18,12 @@ use Rattle.plan.proofs.plan.plan_put.Goals.{After-prefix_at-held, In-Leaf}
 inside : (c : In-Leaf) → c.in-Leaf.first.0 < c.args.capacity
 inside c = subst (EndInPool _) c.in-Leaf.is c.down-way.ensures.end_in_pool
 
-held : (c : After-prefix_at-held) → (λ (seat : ℕ). (prefix_at ipv4 c.args.pool.now (seat + ipv4.prefix_offset)).address) (ipv4.seat c.in-Leaf.first.0) ≡ c.prefix_at-held.result.address
-held c = sym (ap (λ (p : Prefix). p.address) c.prefix_at-held.ensures ∙ ap ((λ (seat : ℕ). (prefix_at ipv4 c.args.pool.now (seat + ipv4.prefix_offset)).address)) c.seat.ensures)
+-- the address that was read is that of the leaf's first route
+held : (c : After-prefix_at-held) →
+    (prefix_at ipv4 c.args.pool.now (ipv4.seat c.in-Leaf.first.0 + ipv4.prefix_offset)).address ≡ c.prefix_at-held.result.address
+held c =
+    let address = λ (seat : ℕ). (prefix_at ipv4 c.args.pool.now (seat + ipv4.prefix_offset)).address in
+    sym (ap (λ (p : Prefix). p.address) c.prefix_at-held.ensures ∙ ap address c.seat.ensures)
 
 pub seat-requires : goal.seat-requires
 seat-requires c = omega (arith, inside c)
@@ -33,11 +37,19 @@ chain_cell-requires c = record { fit = c.requires; first_lt_capacity = inside (g
 pub returns-then-held-prefix : goal.returns-then-held-prefix
 returns-then-held-prefix c =
     let address = held (goal.at.returns-then-held-prefix c).After-prefix_at-held ∙ c.if-held-prefix.true in
-    let from = c.cell_of-from.ensures in record { put_right = put_hang ipv4 laid4 _ _ _ _ _ _ c.down-way.ensures _ c.in-Leaf.is _ _ address from c.chain_cell.ensures; put_in_pool = cell_inside ipv4 laid4 _ _ _ _ _ _ c.requires from.in_pool c.chain_cell.ensures }
+    let from = c.cell_of-from.ensures in
+    record {
+      put_right = put_hang ipv4 laid4 _ _ _ _ _ _ c.down-way.ensures _ c.in-Leaf.is _ _ address from c.chain_cell.ensures;
+      put_in_pool = cell_inside ipv4 laid4 _ _ _ _ _ _ c.requires from.in_pool c.chain_cell.ensures;
+    }
 
 pub cell_of-requires : goal.cell_of-requires
 cell_of-requires c =
-    let way = c.down-way.ensures in record { fit = c.requires; way_usable = fewer ipv4 laid4 _ _ _ _ _ c.level_of-level.ensures.within (record { shallow = way.shallow; usable = way.usable }) }
+    let way = c.down-way.ensures in
+    record {
+      fit = c.requires;
+      way_usable = fewer ipv4 laid4 _ _ _ _ _ c.level_of-level.ensures.within (record { shallow = way.shallow; usable = way.usable });
+    }
 
 pub returns-else-held-prefix : goal.returns-else-held-prefix
 returns-else-held-prefix c =

@@ -13,12 +13,17 @@ use Rattle.plan.proofs.plan.plan_take.Goals as goal
 use Rattle.plan.proofs.plan.plan_take.Goals.{In-At}
 
 -- what was found
-hung : (c : In-At) → (let args = c.args in HungFrom ipv4 args.capacity args.pool.now c.cell_of-from.result c.in-Leaf.first.0 args.prefix.length.0) (At c.in-At.cell c.in-At.place)
+hung : (c : In-At) →
+    (let args = c.args in HungFrom ipv4 args.capacity args.pool.now c.cell_of-from.result c.in-Leaf.first.0 args.prefix.length.0) (At c.in-At.cell c.in-At.place)
 hung c = c.in-At.ensures
 
 pub hung_at-requires : goal.hung_at-requires
 hung_at-requires c =
-    let first-inside = subst (EndInPool _) c.in-Leaf.is c.down-way.ensures.end_in_pool in record { fit = c.requires; first_lt_capacity = (first-inside, c.cell_of-from.ensures.in_pool) }
+    let first-inside = subst (EndInPool _) c.in-Leaf.is c.down-way.ensures.end_in_pool in
+    record {
+      fit = c.requires;
+      first_lt_capacity = (first-inside, c.cell_of-from.ensures.in_pool);
+    }
 
 pub returns-then-cell-from : goal.returns-then-cell-from
 returns-then-cell-from c =

@@ -13,7 +13,8 @@ use Rattle.search.proofs.descent.down.Goals.{In-Inner, In-Leaf}
 leaf_seen : (c : In-Leaf) → (SeenRight ipv4 c.args.capacity c.args.pool.now c.loop-place.link c.loop-place.lowest) (Leaf c.in-Leaf.place)
 leaf_seen c = c.in-Leaf.ensures
 
-inner_seen : (c : In-Inner) → (SeenRight ipv4 c.args.capacity c.args.pool.now c.loop-place.link c.loop-place.lowest) (Inner c.in-Inner.place c.in-Inner.index)
+inner_seen : (c : In-Inner) →
+    (SeenRight ipv4 c.args.capacity c.args.pool.now c.loop-place.link c.loop-place.lowest) (Inner c.in-Inner.place c.in-Inner.index)
 inner_seen c = c.in-Inner.ensures
 
 pub returns-then-link-eq0 : goal.returns-then-link-eq0

@@ -13,11 +13,14 @@ use Rattle.search.proofs.edge.ascend.Goals as goal
 use Rattle.search.proofs.edge.ascend.Goals.{After-bit_of, In-loop-level}
 
 -- the place of the level can be used
-usable : (c : In-loop-level) → let args = c.args in Usable ipv4 args.capacity args.pool.now ((λ (k : ℕ). get_or c.args.inner.now k 0) (c.loop-level.level - 1))
+usable : (c : In-loop-level) →
+    Usable ipv4 c.args.capacity c.args.pool.now (get_or c.args.inner.now (c.loop-level.level - 1) 0)
 usable c = c.requires.depth_bound.1 (c.loop-level.level - 1) (omega arith)
 
 -- the bit that was read is the destination's at its mark
-read_bit : (c : After-bit_of) → let args = c.args in c.bit_of.result ≡ bit 32 (mark_at ipv4 args.capacity args.pool.now ((λ (k : ℕ). get_or c.args.inner.now k 0) (c.loop-level.level - 1)) - 1) args.destination
+read_bit : (c : After-bit_of) →
+    let mark = mark_at ipv4 c.args.capacity c.args.pool.now (get_or c.args.inner.now (c.loop-level.level - 1) 0) in
+    c.bit_of.result ≡ bit 32 (mark - 1) c.args.destination
 read_bit c =
     let args = c.args in
     c.bit_of.ensures ∙ ap (λ (n : ℕ). bit 32 (n - 1) args.destination) c.mark_at-mark.ensures
@@ -44,9 +47,11 @@ returns-then-bit_of-side c =
 
 pub loop-level-preserved : goal.loop-level-preserved
 loop-level-preserved c =
-    let here : (λ (k : ℕ). Takes ipv4 c.args.capacity c.args.pool.now c.args.destination c.args.side ((λ (k : ℕ). get_or c.args.inner.now k 0) k)) (c.loop-level.level - 1) → ⊥ = λ g. c.if-bit_of-side.false (read_bit (goal.at.loop-level-preserved c).After-bit_of ∙ g) in (
+    let takes = λ (k : ℕ). Takes ipv4 c.args.capacity c.args.pool.now c.args.destination c.args.side (get_or c.args.inner.now k 0) in
+    let below = c.loop-level.level - 1 in
+    let here : takes below → ⊥ = λ g. c.if-bit_of-side.false (read_bit (goal.at.loop-level-preserved c).After-bit_of ∙ g) in (
       omega arith,
-      λ m h l g. ⊎_elim (λ e. here (subst ((λ (k : ℕ). Takes ipv4 c.args.capacity c.args.pool.now c.args.destination c.args.side ((λ (k : ℕ). get_or c.args.inner.now k 0) k))) e g)) (λ n. c.loop-level.invariant.1 m (omega arith) l g) (eq_or_ne m (c.loop-level.level - 1)),
+      λ m h l g. ⊎_elim (λ e. here (subst takes e g)) (λ n. c.loop-level.invariant.1 m (omega arith) l g) (eq_or_ne m below),
     )
 
 pub returns : goal.returns

@@ -6,7 +6,8 @@ use Rattle.search.proofs.Left.{left_start, left_step, left_leaf_lem, left_damage
 use Rattle.search.proofs.edge.leftmost.Goals as goal
 use Rattle.search.proofs.edge.leftmost.Goals.{In-Inner}
 
-inner_seen : (c : In-Inner) → (SeenRight ipv4 c.args.capacity c.args.pool.now c.loop-place.link c.loop-place.lowest) (Inner c.in-Inner.place c.in-Inner.index)
+inner_seen : (c : In-Inner) →
+    (SeenRight ipv4 c.args.capacity c.args.pool.now c.loop-place.link c.loop-place.lowest) (Inner c.in-Inner.place c.in-Inner.index)
 inner_seen c = c.in-Inner.ensures
 
 pub loop-place-init : goal.loop-place-init

@@ -11,15 +11,20 @@ use Rattle.search.proofs.exact.along.Goals as goal
 use Rattle.search.proofs.exact.along.Goals.{After-passes, After-prefix_at-held}
 
 -- the prefix that was read, and the test of it
-held : (c : After-prefix_at-held) → prefix_of c.prefix_at-held.result ≡ (prefix_at ipv4 c.args.pool.now (ipv4.seat c.loop-prefix.place.0 + ipv4.prefix_offset))
-held c =
-    let words = c.args.pool.now in
-    c.prefix_at-held.ensures ∙ ap (λ (n : ℕ). prefix_at ipv4 words (n + ipv4.prefix_offset)) c.seat.ensures
+held : (c : After-prefix_at-held) →
+    prefix_of c.prefix_at-held.result ≡ prefix_at ipv4 c.args.pool.now (ipv4.seat c.loop-prefix.place.0 + ipv4.prefix_offset)
+held c = c.prefix_at-held.ensures ∙ ap (λ (n : ℕ). prefix_at ipv4 c.args.pool.now (n + ipv4.prefix_offset)) c.seat.ensures
 
-tested : (c : After-passes) → c.passes.result ≡ (asked c.args.wanted (prefix_of c.args.prefix)) (prefix_at ipv4 c.args.pool.now (ipv4.seat c.loop-prefix.place.0 + ipv4.prefix_offset))
-tested c = c.passes.ensures ∙ ap (asked c.args.wanted (prefix_of c.args.prefix)) ((let held' : prefix_of c.prefix_at-held.result ≡ (prefix_at ipv4 c.args.pool.now (ipv4.seat c.loop-prefix.place.0 + ipv4.prefix_offset)) = let words = c.args.pool.now in c.prefix_at-held.ensures ∙ ap (λ (n : ℕ). prefix_at ipv4 words (n + ipv4.prefix_offset)) c.seat.ensures in held'))
+tested : (c : After-passes) →
+    let test = asked c.args.wanted (prefix_of c.args.prefix) in
+    c.passes.result ≡ test (prefix_at ipv4 c.args.pool.now (ipv4.seat c.loop-prefix.place.0 + ipv4.prefix_offset))
+tested c =
+    let test = asked c.args.wanted (prefix_of c.args.prefix) in
+    let seated = λ (n : ℕ). prefix_at ipv4 c.args.pool.now (n + ipv4.prefix_offset) in
+    c.passes.ensures ∙ ap test (c.prefix_at-held.ensures ∙ ap seated c.seat.ensures)
 
-length_held : (c : After-prefix_at-held) → c.prefix_at-held.result.length.0 ≡ (prefix_at ipv4 c.args.pool.now (ipv4.seat c.loop-prefix.place.0 + ipv4.prefix_offset)).length
+length_held : (c : After-prefix_at-held) →
+    c.prefix_at-held.result.length.0 ≡ (prefix_at ipv4 c.args.pool.now (ipv4.seat c.loop-prefix.place.0 + ipv4.prefix_offset)).length
 length_held c = ap (λ (p : Prefix). p.length) (held c)
 
 pub loop-prefix-init : goal.loop-prefix-init

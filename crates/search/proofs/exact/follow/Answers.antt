@@ -20,7 +20,8 @@ routed c =
     sym c.next_at.ensures ∙ says
 
 -- the length that was read
-measured : (c : After-struct_known-in-Route-2-1) → let at = ipv4.seat c.in-Route.next.0 + ipv4.prefix_offset in c.prefix_at-prefix.result.length.0 ≡ (prefix_at ipv4 (c.args.pool.now) at).length
+measured : (c : After-struct_known-in-Route-2-1) →
+    let at = ipv4.seat c.in-Route.next.0 + ipv4.prefix_offset in c.prefix_at-prefix.result.length.0 ≡ (prefix_at ipv4 (c.args.pool.now) at).length
 measured c =
     let read = ap (λ (p : Prefix). p.length) c.prefix_at-prefix.ensures in
     let pool = (c.args.pool.now) in

@@ -9,4 +9,5 @@ pub returns-in-Same : goal.returns-in-Same
 returns-in-Same c = c.is.ensures ∙ ap (λ (wanted : Wanted). asked wanted (prefix_of c.args.prefix) (prefix_of c.args.held)) (sym c.in-Same.is)
 
 pub returns-in-After : goal.returns-in-After
-returns-in-After c = c.comes_before.ensures ∙ ap (λ (wanted : Wanted). asked wanted (prefix_of c.args.prefix) (prefix_of c.args.held)) (sym c.in-After.is)
+returns-in-After c =
+    c.comes_before.ensures ∙ ap (λ (wanted : Wanted). asked wanted (prefix_of c.args.prefix) (prefix_of c.args.held)) (sym c.in-After.is)

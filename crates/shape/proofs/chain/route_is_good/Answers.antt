@@ -26,7 +26,8 @@ there c =
     subst (λ (n : ℕ). (c.payload_there.result ≡ true) ↔ PayloadThere ipv4 pool n) c.seat.ensures c.payload_there.ensures
 
 pub returns-then-not-payload_there : goal.returns-then-not-payload_there
-returns-then-not-payload_there c = refused (λ f. not_both ((there (goal.at.returns-then-not-payload_there c).After-payload_there).1 (f.used, f.known)) c.if-not-payload_there.true)
+returns-then-not-payload_there c =
+    refused (λ f. not_both ((there (goal.at.returns-then-not-payload_there c).After-payload_there).1 (f.used, f.known)) c.if-not-payload_there.true)
 
 pub returns-then-not-well_formed : goal.returns-then-not-well_formed
 returns-then-not-well_formed c =

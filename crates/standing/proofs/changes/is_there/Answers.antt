@@ -31,11 +31,13 @@ pub bounds-pool-at : goal.bounds-pool-at
 bounds-pool-at c = omega arith
 
 -- the prefix is the slot's, and so is each newer one that it is compared with
-own : (c : After-prefix_at-prefix) → let args = c.args in prefix_of c.prefix_at-prefix.result ≡ changed_at ipv4 args.capacity args.pool.now args.change
+own : (c : After-prefix_at-prefix) →
+    let args = c.args in prefix_of c.prefix_at-prefix.result ≡ changed_at ipv4 args.capacity args.pool.now args.change
 own c =
     c.prefix_at-prefix.ensures ∙ ap (λ (n : ℕ). prefix_at ipv4 c.args.pool.now (n + 1)) c.slot.ensures
 
-compared : (c : After-is) → let args = c.args in let prefix-of = changed_at ipv4 args.capacity args.pool.now in c.is.result ≡ same (prefix-of args.change) (prefix-of c.loop-newer.newer)
+compared : (c : After-is) →
+    let args = c.args in let prefix-of = changed_at ipv4 args.capacity args.pool.now in c.is.result ≡ same (prefix-of args.change) (prefix-of c.loop-newer.newer)
 compared c =
     let args = c.args in
     let read = c.prefix_at-other in

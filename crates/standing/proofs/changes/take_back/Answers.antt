@@ -7,7 +7,8 @@ use Rattle.standing.proofs.changes.take_back.Goals as goal
 use Rattle.standing.proofs.changes.take_back.Goals.{After-is_there-there}
 
 -- the action is the slot's
-action_there : (c : After-is_there-there) → let args = c.args in word args.pool.now c.slot-at.result ≡ action_at ipv4 args.capacity args.pool.now args.change
+action_there : (c : After-is_there-there) →
+    let args = c.args in word args.pool.now c.slot-at.result ≡ action_at ipv4 args.capacity args.pool.now args.change
 action_there c =
     ap (word c.args.pool.now) c.slot-at.ensures
 

@@ -14,7 +14,11 @@ bounds-pool-4 c = omega arith
 pub step_back-requires : goal.step_back-requires
 step_back-requires c =
     let going = c.loop-pool.invariant.1 c.requires.accepted.0 c.requires.accepted.1 in
-    let may = going_accepts ipv4 _ _ _ going (λ z. omega (arith, z, c.loop-pool-test.true)) in record { fit = (c.requires.fit.0, c.loop-pool.invariant.0 ∙ c.requires.fit.1); accepted = (going.state, may) }
+    let may = going_accepts ipv4 _ _ _ going (λ z. omega (arith, z, c.loop-pool-test.true)) in
+    record {
+      fit = (c.requires.fit.0, c.loop-pool.invariant.0 ∙ c.requires.fit.1);
+      accepted = (going.state, may);
+    }
 
 pub loop-pool-smaller : goal.loop-pool-smaller
 loop-pool-smaller c =

@@ -12,7 +12,8 @@ use Rattle.undo.proofs.TakenBack.{Going}
 use Rattle.undo.proofs.back.back_out.Given as goal
 
 abbrev pub invariant-loop-pool : goal.invariant-loop-pool
-invariant-loop-pool l = (length l.pool ≡ length l.initial.pool) × ((s : State Payload) → Accepts ipv4 l.capacity back_out l.initial.pool s → Going ipv4 l.capacity l.pool s)
+invariant-loop-pool l =
+    (length l.pool ≡ length l.initial.pool) × ((s : State Payload) → Accepts ipv4 l.capacity back_out l.initial.pool s → Going ipv4 l.capacity l.pool s)
 
 abbrev pub decreases-loop-pool : goal.decreases-loop-pool
 decreases-loop-pool l = word l.pool 4

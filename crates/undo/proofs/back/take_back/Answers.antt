@@ -36,7 +36,11 @@ prefix_at-prefix-requires c = omega (arith, fits (goal.at.prefix_at-prefix-requi
 pub take_out-requires : goal.take_out-requires
 take_out-requires c =
     let read = c.prefix_at-prefix.ensures in
-    let take = to_take ipv4 _ _ _ c.requires.accepted.1 _ (place (goal.at.take_out-requires c).After-slot-at) _ read (λ z. omega (arith, z, c.if-action-eq1.true)) in record { fit = c.requires.fit; to_take = (c.requires.accepted.0, take) }
+    let take = to_take ipv4 _ _ _ c.requires.accepted.1 _ (place (goal.at.take_out-requires c).After-slot-at) _ read (λ z. omega (arith, z, c.if-action-eq1.true)) in
+    record {
+      fit = c.requires.fit;
+      to_take = (c.requires.accepted.0, take);
+    }
 
 pub returns-then-action-eq1 : goal.returns-then-action-eq1
 returns-then-action-eq1 c =
@@ -57,7 +61,11 @@ payload_at-payload-requires c =
 pub put_in-requires : goal.put_in-requires
 put_in-requires c =
     let read = c.prefix_at-prefix.ensures in
-    let put = to_put ipv4 _ _ _ c.requires.accepted.1 _ (place (goal.at.put_in-requires c).After-slot-at) _ read _ c.payload_at-payload.ensures c.if-action-eq2.true in record { fit = c.requires.fit; to_put = (c.requires.accepted.0, put) }
+    let put = to_put ipv4 _ _ _ c.requires.accepted.1 _ (place (goal.at.put_in-requires c).After-slot-at) _ read _ c.payload_at-payload.ensures c.if-action-eq2.true in
+    record {
+      fit = c.requires.fit;
+      to_put = (c.requires.accepted.0, put);
+    }
 
 pub returns-then-action-eq2 : goal.returns-then-action-eq2
 returns-then-action-eq2 c =
@@ -71,7 +79,11 @@ returns-then-action-eq2 c =
 pub swap-requires : goal.swap-requires
 swap-requires c =
     let read = c.prefix_at-prefix.ensures in
-    let take = to_take ipv4 _ _ _ c.requires.accepted.1 _ (place (goal.at.swap-requires c).After-slot-at) _ read (λ z. omega (arith, z, c.if-action-eq2.false)) in record { fit = c.requires.fit; to_take = (c.requires.accepted.0, take) }
+    let take = to_take ipv4 _ _ _ c.requires.accepted.1 _ (place (goal.at.swap-requires c).After-slot-at) _ read (λ z. omega (arith, z, c.if-action-eq2.false)) in
+    record {
+      fit = c.requires.fit;
+      to_take = (c.requires.accepted.0, take);
+    }
 
 pub returns : goal.returns
 returns c =

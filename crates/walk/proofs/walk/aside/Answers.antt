@@ -25,7 +25,11 @@ passed c =
 pub right_side-requires : goal.right_side-requires
 right_side-requires c =
     let way = c.requires.ways.0 in
-    let within = c.rejoin-level.ensures.within in record { fit = c.requires.fit; level_bound = (omega (arith, way.shallow), λ k h. way.usable k (omega arith)) }
+    let within = c.rejoin-level.ensures.within in
+    record {
+      fit = c.requires.fit;
+      level_bound = (omega (arith, way.shallow), λ k h. way.usable k (omega arith));
+    }
 
 pub returns-then-bit_of-eq1 : goal.returns-then-bit_of-eq1
 returns-then-bit_of-eq1 c =

@@ -16,7 +16,8 @@ inside : (c : In-Leaf) → c.in-Leaf.leaf.0 < c.args.capacity
 inside c = subst (EndInPool _) c.in-Leaf.is c.down-way.ensures.end_in_pool
 
 -- the bit at which the prefix's address parts from the one that was read
-parts : (c : After-parting-parted) → let args = c.args in Part 32 args.prefix.address (held_prefix ipv4 args.pool.now c.in-Leaf.leaf.0).address c.parting-parted.result
+parts : (c : After-parting-parted) →
+    let args = c.args in Part 32 args.prefix.address (held_prefix ipv4 args.pool.now c.in-Leaf.leaf.0).address c.parting-parted.result
 parts c =
     let args = c.args in
     let read = ap (λ (p : Prefix). p.address) c.prefix_at-held.ensures in
@@ -31,7 +32,11 @@ prefix_at-held-requires c = omega (arith, inside (goal.at.prefix_at-held-require
 
 pub aside-requires : goal.aside-requires
 aside-requires c =
-    let parted : c.parting-parted.result < 32 = omega (arith, c.parting-parted.ensures.within, c.if-parted-eq-WIDTH.false) in record { fit = c.requires; ways = (c.down-way.ensures, c.in-Leaf.is, parted) }
+    let parted : c.parting-parted.result < 32 = omega (arith, c.parting-parted.ensures.within, c.if-parted-eq-WIDTH.false) in
+    record {
+      fit = c.requires;
+      ways = (c.down-way.ensures, c.in-Leaf.is, parted);
+    }
 
 pub returns-then-parted-eq-WIDTH : goal.returns-then-parted-eq-WIDTH
 returns-then-parted-eq-WIDTH c =
