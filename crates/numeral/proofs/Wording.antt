@@ -42,7 +42,7 @@ module _ (b : ℕ) (s : List ℕ) (i : ℕ) where
   pub stands_nowhere : length s ≤ i → index_of b (drop i s) ≡ 0
   stands_nowhere h = rw (drop_of_length-le s h) (nowhere b)
 
--- up to the line's end is up to the end
+-- looked for up to the length, it is looked for to the end
 pub found_at : (b : ℕ) (s : List ℕ) (from end : ℕ) → end ≡ from + index_of b (drop from (take (length s) s)) → end ≡ from + index_of b (drop from s)
 found_at b s from end e = e ∙ ap (λ (t : List ℕ). from + index_of b (drop from t)) (take-length s)
 
