@@ -2,7 +2,7 @@
 // words are 0 before the first fresh, which is a damaged pool.
 #![tactic(auto)]
 
-fn main() {
+fn main(rt: HostRuntime) {
     let mut words = [0u32; pool::MOST_WORDS + 16];
-    session::run(&mut words, true);
+    session::run(&mut rt.stdin(), &mut words, true);
 }

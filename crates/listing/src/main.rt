@@ -1,8 +1,8 @@
 // The listing of the table that the commands on standard input leave, and nothing else.
 #![tactic(auto)]
 
-fn main() {
+fn main(rt: HostRuntime) {
     let mut words = [0u32; pool::MOST_WORDS + 16];
-    session::run(&mut words, false);
+    session::run(&mut rt.stdin(), &mut words, false);
     let _ = reply::list(&words);
 }

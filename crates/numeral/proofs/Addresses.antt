@@ -1,15 +1,14 @@
 -- One octet read, the next, and four of them, over plain values.
 use Prim.Native.Nat.{ℕ, ◌+◌, ◌-◌, ◌*◌, ◌≤◌, ◌<◌}
-use mathlib.Core.Path.{◌≡◌, refl, sym, ap, ◌∙◌}
+use mathlib.Core.Path.{◌≡◌, refl, ap}
 use mathlib.Core.List.{List}
 use native.Mathlib.Omega.{arith}
 use lib.ListN.{length, take, drop}
-use Rattle.bytes.specs.Bytes.{index_of, slice}
 use Rattle.numeral.specs.Decimal.{Spells, done, digit, ReadAs}
+use Rattle.numeral.specs.Words.{index_of}
 use Rattle.numeral.specs.Octets.{Octet, Dotted, dot_from, up_to_dot, OctetAt, NextAt}
 use Rattle.numeral.specs.declared.number.Number as number
 use Rattle.numeral.specs.declared.number.Octets as octets
-use Rattle.numeral.proofs.Wording.{found_at}
 use Rattle.numeral.proofs.Dots.{Next, next_there, last_there, with_next, with_last}
 
 -- bytes spell one number
@@ -19,10 +18,7 @@ spells_one (digit low high p) (digit low' high' q) = spells_one p q
 
 -- ---- one octet
 
-module _ (s : List ℕ) (from end : ℕ) (found : end ≡ from + index_of 46 (slice from (length s) s)) where
-  to_dot : end ≡ dot_from s from
-  to_dot = found_at 46 s from end found
-
+module _ (s : List ℕ) (from end : ℕ) (to_dot : end ≡ dot_from s from) where
   piece : take (end - from) (drop from s) ≡ up_to_dot s from
   piece =
       let many : end - from ≡ index_of 46 (drop from s) = omega (arith, to_dot) in

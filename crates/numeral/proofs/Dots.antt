@@ -1,48 +1,36 @@
 -- A row of octets is parted at its first dot, and put together there.
-use Prim.Native.Nat.{ℕ, zero, suc, ◌+◌, ◌*◌, ◌≤◌, ◌<◌}
+use Prim.Native.Nat.{ℕ, suc, ◌+◌, ◌*◌, ◌≤◌, ◌<◌}
 use mathlib.Core.Path.{◌≡◌, refl, sym, ap, subst, ◌∙◌}
 use mathlib.Core.List.{List, [], ◌∷◌, ◌++◌, append-nil}
-use mathlib.Core.Logic.{◌⊎◌, inl, inr, ⊎_elim}
+use mathlib.Core.Logic.{⊎_elim}
 use native.Mathlib.Omega.{arith}
-use borrow.Author.Tests.{eq-eqb, ne_eqb}
 use lib.ListN.{length, take, drop, get_or, length-append, length-drop}
 use lib.Seq.{take_all, take_at, drop-append-add, split_at, drop-drop}
 use Rattle.bits.proofs.Cases.{eq_or_ne}
-use Rattle.bytes.specs.Bytes.{index_of, index_after}
+use Rattle.numeral.specs.Words.{index_of}
 use Rattle.numeral.specs.Decimal.{Spells, done, digit}
 use Rattle.numeral.specs.Octets.{Octet, Dotted, last, more, dot_from, up_to_dot}
+use Rattle.numeral.proofs.Wording.{at_once, later, nowhere}
 
 -- ---- the first dot
-
-at_once : (x : ℕ) (rest : List ℕ) → x ≡ 46 → index_of 46 (x ∷ rest) ≡ 0
-unfolding index_of index_after
-at_once x rest e = rw (eq-eqb x 46 e)
-
-later : (x : ℕ) (rest : List ℕ) → (x ≡ 46 → ⊥) → index_of 46 (x ∷ rest) ≡ suc (index_of 46 rest)
-unfolding index_of index_after
-later x rest n = rw (ne_eqb x 46 n)
-
-nowhere : index_of 46 [] ≡ 0
-unfolding index_of
-nowhere = refl
 
 -- digits have none
 past_digits : {v n : ℕ} {s : List ℕ} (rest : List ℕ) → Spells v s n → index_of 46 (s ++ rest) ≡ length s + index_of 46 rest
 past_digits rest done = omega arith
 past_digits rest (digit {b = b} {rest = s} low high h) =
     let deeper = past_digits rest h in
-    omega (arith, later b (s ++ rest) (λ e. omega (arith, low, high, e)), deeper)
+    omega (arith, later 46 b (s ++ rest) (λ e. omega (arith, low, high, e)), deeper)
 
 -- where there is one, it is one
 is_dot : (t : List ℕ) → index_of 46 t < length t → get_or t (index_of 46 t) 0 ≡ 46
 is_dot [] h = absurd (omega (arith, h))
-is_dot (x ∷ t) h = ⊎_elim here (λ n. behind n (is_dot t (omega (arith, h, later x t n)))) (eq_or_ne x 46)
+is_dot (x ∷ t) h = ⊎_elim here (λ n. behind n (is_dot t (omega (arith, h, later 46 x t n)))) (eq_or_ne x 46)
   where
     here : x ≡ 46 → get_or (x ∷ t) (index_of 46 (x ∷ t)) 0 ≡ 46
-    here e = rw (at_once x t e) e
+    here e = rw (at_once 46 x t e) e
 
     behind : (x ≡ 46 → ⊥) → get_or t (index_of 46 t) 0 ≡ 46 → get_or (x ∷ t) (index_of 46 (x ∷ t)) 0 ≡ 46
-    behind n g = rw (later x t n) g
+    behind n g = rw (later 46 x t n) g
 
 -- ---- a row of octets, parted
 
@@ -62,14 +50,14 @@ parts {k} {before} {whole} (more {n = n} {s = s} {rest = rest} o d) = record {
 }
   where
     first : index_of 46 (s ++ (46 ∷ rest)) ≡ length s
-    first = omega (arith, past_digits (46 ∷ rest) o.1, at_once 46 rest refl)
+    first = omega (arith, past_digits (46 ∷ rest) o.1, at_once 46 46 rest refl)
 
 -- the last octet has no dot behind it
 end_of : {before whole : ℕ} {t : List ℕ} → Dotted 0 before t whole → (index_of 46 t ≡ length t) × ((n : ℕ) × Octet (take (index_of 46 t) t) n)
 end_of (last {n = n} {s = s} o) = (ends, (n, rw (take_all (index_of 46 s) s (omega (arith, ends))) o))
   where
     ends : index_of 46 s ≡ length s
-    ends = ap (index_of 46) (sym (append-nil s)) ∙ omega (arith, past_digits [] o.1, nowhere)
+    ends = ap (index_of 46) (sym (append-nil s)) ∙ omega (arith, past_digits [] o.1, nowhere 46)
 
 -- ---- by places of the text
 

@@ -1,3 +1,4 @@
 pub mod Wording
+pub mod Digits
 pub mod Dots
 pub mod Addresses

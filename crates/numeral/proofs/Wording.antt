@@ -2,7 +2,7 @@
 use Prim.Native.Nat.{ℕ, zero, suc, ◌+◌, ◌-◌, ◌≤◌, ◌<◌}
 use mathlib.Core.Path.{◌≡◌, refl, sym, ap, subst, ◌∙◌}
 use mathlib.Core.Bool.{Bool, true, false, not, beq}
-use mathlib.Core.List.{List, []}
+use mathlib.Core.List.{List, [], ◌∷◌}
 use mathlib.Core.Logic.{inl, inr}
 use native.Mathlib.Numerals.{add-one}
 use native.Mathlib.Omega.{arith}
@@ -10,16 +10,40 @@ use borrow.Author.Tests.{eq-eqb, ne_eqb, not-true, not-false}
 use lib.Dec.{eqb}
 use lib.ListN.{length, take, drop, get_or, drop_of_length-le}
 use lib.Seq.{take-length, drop-length, drop-cons, drop-drop}
-use Rattle.bytes.specs.Bytes.{index_of, slice}
-use Rattle.numeral.specs.Words.{is_blank, leading, from_word, word_at, Behind, given_of, TakenAs}
+use Rattle.numeral.specs.Words.{index_of, is_blank, leading, from_word, word_at, Behind, given_of, TakenAs}
 use Rattle.numeral.specs.declared.number.Number as number
 use Rattle.numeral.specs.declared.number.Taken as taken
 use Rattle.numeral.specs.declared.wrong.Fault as fault
 
 -- ---- a byte looked for from a place up to the end
 
-pub found_at : (b : ℕ) (s : List ℕ) (from end : ℕ) → end ≡ from + index_of b (slice from (length s) s) → end ≡ from + index_of b (drop from s)
-unfolding slice
+-- it stands in front
+pub at_once : (b x : ℕ) (rest : List ℕ) → x ≡ b → index_of b (x ∷ rest) ≡ 0
+unfolding index_of
+at_once b x rest e = rw (eq-eqb x b e)
+
+-- another stands in front
+pub later : (b x : ℕ) (rest : List ℕ) → (x ≡ b → ⊥) → index_of b (x ∷ rest) ≡ suc (index_of b rest)
+unfolding index_of
+later b x rest n = rw (ne_eqb x b n)
+
+-- nothing is left
+pub nowhere : (b : ℕ) → index_of b [] ≡ 0
+unfolding index_of
+nowhere b = refl
+
+module _ (b : ℕ) (s : List ℕ) (i : ℕ) where
+  pub looks_on : i < length s → (get_or s i 0 ≡ b → ⊥) → index_of b (drop i s) ≡ suc (index_of b (drop (i + 1) s))
+  looks_on h n = rw (add-one i, drop-cons s i 0 h) (later b (get_or s i 0) (drop (suc i) s) n)
+
+  pub stands : i < length s → get_or s i 0 ≡ b → index_of b (drop i s) ≡ 0
+  stands h e = rw (drop-cons s i 0 h) (at_once b (get_or s i 0) (drop (suc i) s) e)
+
+  pub stands_nowhere : length s ≤ i → index_of b (drop i s) ≡ 0
+  stands_nowhere h = rw (drop_of_length-le s h) (nowhere b)
+
+-- looked for up to the length, it is looked for to the end
+pub found_at : (b : ℕ) (s : List ℕ) (from end : ℕ) → end ≡ from + index_of b (drop from (take (length s) s)) → end ≡ from + index_of b (drop from s)
 found_at b s from end e = e ∙ ap (λ (t : List ℕ). from + index_of b (drop from t)) (take-length s)
 
 -- ---- blanks

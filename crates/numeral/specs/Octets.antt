@@ -1,7 +1,7 @@
 -- What it is to read an address.
 use Rattle.std.specs.Prelude.{ℕ, suc, ◌+◌, ◌*◌, ◌≤◌, ◌<◌, ◌≡◌, List, ◌∷◌, ◌++◌, length, take, drop}
-use Rattle.bytes.specs.Bytes.{index_of}
 use Rattle.numeral.specs.Decimal.{Spells}
+use Rattle.numeral.specs.Words.{index_of}
 use Rattle.numeral.specs.declared.number.Number as number
 use Rattle.numeral.specs.declared.number.Octets as octets
 

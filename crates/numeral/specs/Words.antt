@@ -1,10 +1,14 @@
 -- The words of a line: what stands between blanks.
 use Rattle.std.specs.Prelude.{ℕ, zero, suc, ◌≤◌, ◌<◌, ◌≡◌, Bool, true, false, cond, ◌||◌, List, [], ◌∷◌, ◌⊎◌, eqb, length, take, drop}
 use Rattle.std.specs.Bool.{beq}
-use Rattle.bytes.specs.Bytes.{index_of}
 use Rattle.numeral.specs.declared.number.Number as number
 use Rattle.numeral.specs.declared.number.Taken as taken
 use Rattle.numeral.specs.declared.wrong.Fault as fault
+
+-- How many elements stand before the first that equals b, or how many there are where none does.
+unfoldable pub index_of : ℕ → List ℕ → ℕ
+index_of b [] = 0
+index_of b (x ∷ rest) = cond (eqb x b) 0 (suc (index_of b rest))
 
 -- A blank is a space or a tab.
 abbrev pub is_blank : ℕ → Bool

@@ -34,6 +34,9 @@ fn wide(b: u8) -> u64
     b as u64
 }
 
+// The largest number of 32 bits.
+const LARGEST: u64 = 4294967295;
+
 // A decimal number. It is tested at each digit, so that a long one can't wrap into the range.
 pub fn decimal(s: &[u8]) -> Number
     ensures { ReadAs s.now result }
@@ -52,7 +55,7 @@ pub fn decimal(s: &[u8]) -> Number
             return Number::Bad;
         }
         value = value * 10 + wide(b - b'0');
-        if 4294967295 < value {
+        if LARGEST < value {
             return Number::Bad;
         }
         i += 1;

@@ -4,7 +4,8 @@ ghost use Rattle.numeral.specs.Words.{index_of, is_blank, leading, from_word, wo
 // Where a byte stands first, from a place on, or the end.
 pub fn find(s: &[u8], from: usize, b: u8) -> usize
     requires { from ≤ length s.now }
-    ensures { result ≡ from + index_of b (drop from s.now) }
+    ensures within { result ≤ length s.now }
+    ensures first { result ≡ from + index_of b (drop from s.now) }
 {
     let mut i = from;
     while i < s.len() {

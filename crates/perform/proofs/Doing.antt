@@ -1,16 +1,13 @@
 -- What a command does, as the code finds out which one it is.
 use Prim.Native.Nat.{ℕ}
 use mathlib.Core.Path.{◌≡◌, refl, sym, ap, subst}
-use mathlib.Core.List.{List, [], ◌∷◌}
-use denote.Enum as enum
-use types.Run.{OneOf, miss}
+use mathlib.Core.List.{List}
 use Rattle.model.specs.Ipv4 as ipv4
 use Rattle.model.specs.Call as call
 use Rattle.pool.specs.Ipv4.{ipv4 as words4}
 use Rattle.promise.specs.Promise.{Promise}
 use Rattle.promise.specs.Trees.{tree}
 use Rattle.command.specs.declared.asked.Command.{Command}
-use Rattle.command.specs.contracts.asked.Command as command
 use Rattle.perform.specs.declared.Changed.{Changed}
 use Rattle.perform.specs.Performs.{Calls, Performs}
 
@@ -22,28 +19,35 @@ known ws zs r e d = subst (λ (x : Command). Performs x ws zs r) (sym e) d
 pub calls : {c : call.Call ipv4.Payload} {ws zs : List ℕ} {n m : ℕ} → n ≡ m → Promise (tree words4) c ws zs m call.nothing → Calls c ws zs (Changed.Number n)
 calls {m = m} e p = (m, ap Changed.Number e, p)
 
--- the commands that change no word, by their numbers in the code
-abbrev pub asking : List ℕ
-asking = 0 ∷ 5 ∷ 6 ∷ 7 ∷ 8 ∷ 9 ∷ 14 ∷ 15 ∷ 16 ∷ 17 ∷ 19 ∷ []
-
-pub keeps : (ws : List ℕ) (k : Command) → OneOf asking (enum.Declared.tag_of command.the_type k) → Performs k ws ws Changed.Nothing
-keeps ws Command.Nothing h = (refl, refl)
-keeps ws (Command.Fresh c) h = absurd (miss asking 1 tt h)
-keeps ws (Command.Add r) h = absurd (miss asking 2 tt h)
-keeps ws (Command.Delete by p) h = absurd (miss asking 3 tt h)
-keeps ws (Command.Change r) h = absurd (miss asking 4 tt h)
-keeps ws (Command.Lookup d) h = (refl, refl)
-keeps ws Command.First h = (refl, refl)
-keeps ws (Command.Next p) h = (refl, refl)
-keeps ws Command.Room h = (refl, refl)
-keeps ws (Command.Mask m) h = (refl, refl)
-keeps ws Command.Open h = absurd (miss asking 10 tt h)
-keeps ws Command.Keep h = absurd (miss asking 11 tt h)
-keeps ws Command.Back h = absurd (miss asking 12 tt h)
-keeps ws Command.Step h = absurd (miss asking 13 tt h)
-keeps ws Command.Sound h = (refl, refl)
-keeps ws Command.List h = (refl, refl)
-keeps ws (Command.Words c) h = (refl, refl)
-keeps ws (Command.Peek i) h = (refl, refl)
-keeps ws (Command.Poke i v) h = absurd (miss asking 18 tt h)
-keeps ws (Command.Wrong f) h = (refl, refl)
+-- a command that is none of those which change a word
+pub keeps : (ws : List ℕ) (k : Command)
+    → ((c : _) → k ≡ Command.Fresh c → ⊥)
+    → ((r : _) → k ≡ Command.Add r → ⊥)
+    → ((by p : _) → k ≡ Command.Delete by p → ⊥)
+    → ((r : _) → k ≡ Command.Change r → ⊥)
+    → (k ≡ Command.Open → ⊥)
+    → (k ≡ Command.Keep → ⊥)
+    → (k ≡ Command.Back → ⊥)
+    → (k ≡ Command.Step → ⊥)
+    → ((i v : _) → k ≡ Command.Poke i v → ⊥)
+    → Performs k ws ws Changed.Nothing
+keeps ws Command.Nothing fresh add delete change trial keep back step poke = (refl, refl)
+keeps ws (Command.Fresh c) fresh add delete change trial keep back step poke = absurd (fresh c refl)
+keeps ws (Command.Add r) fresh add delete change trial keep back step poke = absurd (add r refl)
+keeps ws (Command.Delete by p) fresh add delete change trial keep back step poke = absurd (delete by p refl)
+keeps ws (Command.Change r) fresh add delete change trial keep back step poke = absurd (change r refl)
+keeps ws (Command.Lookup d) fresh add delete change trial keep back step poke = (refl, refl)
+keeps ws Command.First fresh add delete change trial keep back step poke = (refl, refl)
+keeps ws (Command.Next p) fresh add delete change trial keep back step poke = (refl, refl)
+keeps ws Command.Room fresh add delete change trial keep back step poke = (refl, refl)
+keeps ws (Command.Mask m) fresh add delete change trial keep back step poke = (refl, refl)
+keeps ws Command.Open fresh add delete change trial keep back step poke = absurd (trial refl)
+keeps ws Command.Keep fresh add delete change trial keep back step poke = absurd (keep refl)
+keeps ws Command.Back fresh add delete change trial keep back step poke = absurd (back refl)
+keeps ws Command.Step fresh add delete change trial keep back step poke = absurd (step refl)
+keeps ws Command.Sound fresh add delete change trial keep back step poke = (refl, refl)
+keeps ws Command.List fresh add delete change trial keep back step poke = (refl, refl)
+keeps ws (Command.Words c) fresh add delete change trial keep back step poke = (refl, refl)
+keeps ws (Command.Peek i) fresh add delete change trial keep back step poke = (refl, refl)
+keeps ws (Command.Poke i v) fresh add delete change trial keep back step poke = absurd (poke i v refl)
+keeps ws (Command.Wrong f) fresh add delete change trial keep back step poke = (refl, refl)

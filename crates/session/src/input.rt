@@ -2,6 +2,7 @@ use command::Command;
 use numeral::Fault;
 use perform::Changed;
 use reply::Words;
+use std::io::Read;
 
 // Room for the longest line, 200 bytes, and for a carriage return behind it.
 type Line = [u8; 201];
@@ -100,23 +101,36 @@ fn take_all(
     at
 }
 
-// One read. At the end of the input, or where it fails, the input is no longer open.
-fn read_some(words: &mut Words, line: &mut Line, at: Input, answers: bool) -> Input {
-    let mut block = [0u8; 512];
-    let got = libc::read(0, &mut block);
-    if got <= 0 {
-        return Input {
-            length: at.length,
-            number: at.number,
-            open: false,
-        };
+// The same place of the input, once no more of it comes.
+fn closed(at: Input) -> Input {
+    Input {
+        length: at.length,
+        number: at.number,
+        open: false,
     }
-    let n = io::count(got, &block);
+}
+
+// One read, of as many bytes as there are by then, so that a line that is typed is answered at once. At the end of the input, or
+// where it fails, the input is no longer open.
+fn read_some<R: Read>(
+    source: &mut R,
+    words: &mut Words,
+    line: &mut Line,
+    at: Input,
+    answers: bool,
+) -> Input {
+    let mut block = [0u8; 512];
+    let Ok(n) = source.read(&mut block) else {
+        return closed(at);
+    };
+    if n == 0 {
+        return closed(at);
+    }
     take_all(words, line, at, &block[..n], answers)
 }
 
 // A proved loop has to end, and nothing says that the input does: the turns are counted down from a number that no run uses up.
-fn read_all(words: &mut Words, line: &mut Line, answers: bool) -> Input {
+fn read_all<R: Read>(source: &mut R, words: &mut Words, line: &mut Line, answers: bool) -> Input {
     let mut at = Input {
         length: 0,
         number: 1,
@@ -124,18 +138,18 @@ fn read_all(words: &mut Words, line: &mut Line, answers: bool) -> Input {
     };
     let mut turns = u64::MAX;
     while turns > 0 && at.open {
-        at = read_some(words, line, at, answers);
+        at = read_some(source, words, line, at, answers);
         turns -= 1;
     }
     at
 }
 
-// Every command of standard input, one a line. A last line without a newline counts. What a command does to the words is promised
+// Every command of what is read, one a line. A last line without a newline counts. What a command does to the words is promised
 // where it is done (`perform::change`). Of a whole run nothing is: no contract can say which commands are read, and a row of
 // them with `poke` among them can leave any words.
-pub fn run(words: &mut Words, answers: bool) {
+pub fn run<R: Read>(source: &mut R, words: &mut Words, answers: bool) {
     let mut line = [0u8; 201];
-    let at = read_all(words, &mut line, answers);
+    let at = read_all(source, words, &mut line, answers);
     if 0 < at.length {
         obey(words, &line, at, answers);
     }

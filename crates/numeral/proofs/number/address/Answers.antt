@@ -1,7 +1,6 @@
 -- Four octets are read, one behind the other: `first` to `fourth` say where each ends and what the number is by then.
 -- Where one is missing, and where more stands behind the fourth, the words spell no address; else they do: `address_read`.
 use borrow.Author.Rules.{rules}
-use mathlib.Core.Path.{subst}
 use native.Mathlib.Omega.{arith}
 use Rattle.numeral.specs.Octets.{OctetAt, NextAt}
 use Rattle.numeral.specs.declared.number.Octets as octets
@@ -10,16 +9,16 @@ use Rattle.numeral.proofs.number.address.Goals as goal
 use Rattle.numeral.proofs.number.address.Goals.{In-Value, In-Value-next_octet, In-Value-next_octet-2, In-Value-next_octet-3}
 
 -- what was read up to each octet, and where it ends
-first : (c : In-Value) → let s = c.args.s.now in OctetAt s 0 0 (octets.Octets.Value c.in-Value.a c.in-Value.i)
+first : (c : In-Value) → OctetAt c.args.s.now 0 0 (octets.Octets.Value c.in-Value.a c.in-Value.i)
 first c = c.in-Value.ensures
 
-second : (c : In-Value-next_octet) → let a = c.a-1.given.0 in let s = c.args.s.now in NextAt s a.1.0 a.0 (octets.Octets.Value c.in-Value-next_octet.b c.in-Value-next_octet.j)
+second : (c : In-Value-next_octet) → NextAt c.args.s.now c.in-Value.i c.in-Value.a (octets.Octets.Value c.in-Value-next_octet.b c.in-Value-next_octet.j)
 second c = c.in-Value-next_octet.ensures
 
-third : (c : In-Value-next_octet-2) → let b = c.b-1.given.0 in let s = c.args.s.now in NextAt s b.1.0 b.0 (octets.Octets.Value c.in-Value-next_octet-2.c c.in-Value-next_octet-2.k)
+third : (c : In-Value-next_octet-2) → NextAt c.args.s.now c.in-Value-next_octet.j c.in-Value-next_octet.b (octets.Octets.Value c.in-Value-next_octet-2.c c.in-Value-next_octet-2.k)
 third c = c.in-Value-next_octet-2.ensures
 
-fourth : (c : In-Value-next_octet-3) → let before_last = c.c-1.given.0 in let s = c.args.s.now in NextAt s before_last.1.0 before_last.0 (octets.Octets.Value c.in-Value-next_octet-3.d c.in-Value-next_octet-3.end)
+fourth : (c : In-Value-next_octet-3) → NextAt c.args.s.now c.in-Value-next_octet-2.k c.in-Value-next_octet-2.c (octets.Octets.Value c.in-Value-next_octet-3.d c.in-Value-next_octet-3.end)
 fourth c = c.in-Value-next_octet-3.ensures
 
 pub returns-in_default : goal.returns-in_default

@@ -5,4 +5,4 @@ use Rattle.numeral.proofs.word.after.Goals as goal
 pub returns : goal.returns
 returns c =
     let args = c.args in
-    behind_there args.line.now args.from _ _ c.before.start_of_lem.ensures.1 c.pass.ensures.1 c.pass.ensures.0
+    behind_there args.line.now args.from _ _ c.start_of.ensures.1 c.pass.ensures.1 c.pass.ensures.0

@@ -5,4 +5,4 @@ use Rattle.numeral.proofs.word.word_at.Goals as goal
 pub returns : goal.returns
 returns c =
     let args = c.args in
-    word_there args.line.now args.from _ _ after-start-of.start_of_lem.ensures.1 c.pass-end.ensures.1
+    word_there args.line.now args.from _ _ c.start_of-start.ensures.1 c.pass-end.ensures.1
