@@ -5,15 +5,14 @@ use mathlib.Core.Bool.{true, false, cond}
 use mathlib.Core.List.{List, [], ◌∷◌}
 use mathlib.Core.Option.{Option, some}
 use native.Mathlib.Omega.{arith}
-use borrow.Author.Tests.{eqb-false, not-false}
+use borrow.Author.Tests.{eqb-false}
 use lib.Dec.{eqb}
 use lib.ListN.{length}
-use Rattle.model.specs.Prefix.{Prefix, well_formed}
+use Rattle.model.specs.Prefix.{Prefix}
 use Rattle.model.specs.Routes.{Route, find, insert, remove, replace}
 use Rattle.model.specs.State.{Hand, State, Change, added, deleted, changed, Trial, closed, opened, changes, record_in}
 use Rattle.model.specs.Call.{Call, add, delete, change, open_trial, keep, due, accepted, trial_full, done, next, with_trial, change_to, delete_from, change_at}
 use Rattle.model.proofs.Numbers.{Quiet, accepted_quiet}
-use Rattle.model.proofs.Tests.{both}
 use Rattle.model.proofs.Lawful.{LawfulMeaning, next_lawful}
 use Rattle.model.proofs.Taken.{AddTaken, add_taken, DeleteTaken, delete_taken, ChangeTaken, change_taken}
 use Rattle.model.proofs.Routes.{find_held}

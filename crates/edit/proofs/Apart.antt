@@ -2,7 +2,7 @@
 use Prim.Native.Nat.{ℕ}
 use mathlib.Core.Path.{refl, subst}
 use mathlib.Core.List.{List, [], ◌∷◌, ◌++◌}
-use mathlib.Core.Logic.{◌⊎◌, inl, inr, ⊎_elim}
+use mathlib.Core.Logic.{inl, inr, ⊎_elim}
 use Rattle.patricia.specs.Tree.{node}
 use Rattle.patricia.specs.Way.{Step, went_left, went_right, plug}
 use Rattle.pool.specs.Holds.{Seat, Seated, route_places, inner_places}

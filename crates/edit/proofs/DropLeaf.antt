@@ -14,7 +14,7 @@ use Rattle.model.specs.State.{State, changes}
 use Rattle.model.specs.Call.{with_trial}
 use Rattle.model.proofs.Edits.{length_remove}
 use Rattle.patricia.specs.Good.{RootGood}
-use Rattle.patricia.specs.Tree.{Entry, leaf, routes, root_routes}
+use Rattle.patricia.specs.Tree.{Entry, leaf, root_routes}
 use Rattle.patricia.specs.Way.{Step, went_left, went_right, plug, Follows}
 use Rattle.patricia.proofs.Take.{unhang, leaf_of, take_out, take_good, take_routes}
 use Rattle.patricia.proofs.Zip.{plug_root, take_plug}

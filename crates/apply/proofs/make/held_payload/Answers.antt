@@ -1,8 +1,7 @@
 -- The search finds the route's place, and the payload is read there: `payload_there`. Where it finds none, the route is not held: `found_there`.
-use mathlib.Core.Path.{ap, subst, ◌∙◌}
+use mathlib.Core.Path.{ap, ◌∙◌}
 use native.Mathlib.Omega.{arith}
 use Rattle.pool.specs.Ipv4.{ipv4}
-use Rattle.search.specs.Find.{Finds}
 use Rattle.apply.proofs.Made.{found_there, payload_there}
 use Rattle.apply.proofs.make.held_payload.Goals as goal
 

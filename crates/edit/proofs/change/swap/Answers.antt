@@ -1,9 +1,7 @@
 -- The route is held at a place (`held_not` where it is not), and the three words of its hop are written there: `swap_done`.
-use mathlib.Core.Path.{subst}
 use native.Mathlib.Omega.{arith}
 use Rattle.pool.specs.Ipv4.{ipv4}
 use Rattle.pool.proofs.Ipv4.{laid4}
-use Rattle.plan.specs.Planned.{HeldRight}
 use Rattle.edit.proofs.Changed.{swap_done, held_not}
 use Rattle.edit.proofs.change.swap.Goals as goal
 

@@ -1,10 +1,8 @@
 -- The plan says where the route comes out, and its row of words is written: one law of `Changed` for each kind of plan.
 -- The route is there, so the plan is not `Nowhere`: `nowhere_not`.
-use mathlib.Core.Path.{subst}
 use native.Mathlib.Omega.{arith}
 use Rattle.pool.specs.Ipv4.{ipv4}
 use Rattle.pool.proofs.Ipv4.{laid4}
-use Rattle.plan.specs.Planned.{TakeRight}
 use Rattle.edit.proofs.Changed.{count_some, link_done, leaf_done, last_done, nowhere_not}
 use Rattle.edit.proofs.change.take_out.Goals as goal
 
