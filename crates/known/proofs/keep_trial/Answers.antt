@@ -13,7 +13,7 @@ use Rattle.known.proofs.keep_trial.Goals as goal
 use Rattle.known.proofs.keep_trial.Goals.{In-Go}
 
 go : (c : In-Go) → MayRight (tree ipv4) keep (c.args.pool.now) (Go c.in-Go.capacity)
-go c = subst (MayRight (tree ipv4) keep (c.args.pool.now)) c.in-Go.is c.judge_end.ensures.may_right
+go c = c.in-Go.ensures.may_keep
 
 pub judge_end-requires : goal.judge_end-requires
 judge_end-requires c = c.requires
@@ -38,10 +38,7 @@ keep-requires c =
 pub returns-in-Go : goal.returns-in-Go
 returns-in-Go c =
     let done = c.keep in
-    goes ipv4 laid4 _ _ _ _ (go (goal.at.returns-in-Go c).In-Go) c.size_of-own.ensures done.new.0 (search rules) refl done.ensures
+    goes ipv4 laid4 _ _ _ _ (go (goal.at.returns-in-Go c).In-Go) c.size_of-own.ensures done.new.pool (search rules) refl done.ensures
 
 pub returns-in-No : goal.returns-in-No
-returns-in-No c =
-    let told = c.refusal-1.given in
-    let verdict = c.judge_end.ensures.may_right in
-    refused_by (tree ipv4) _ _ told.0.0 (subst (MayRight (tree ipv4) _ _) told.1 verdict)
+returns-in-No c = refused_by (tree ipv4) _ _ c.in-No.refusal c.in-No.ensures.may_keep

@@ -38,10 +38,7 @@ step_back-requires c =
 pub returns-in-Go : goal.returns-in-Go
 returns-in-Go c =
     let done = c.step_back in
-    goes ipv4 laid4 _ _ _ _ (go (goal.at.returns-in-Go c).In-Go) c.size_of-own.ensures done.new.0 (search rules) refl done.ensures
+    goes ipv4 laid4 _ _ _ _ (go (goal.at.returns-in-Go c).In-Go) c.size_of-own.ensures done.new.pool (search rules) refl done.ensures
 
 pub returns-in-No : goal.returns-in-No
-returns-in-No c =
-    let told = c.refusal-1.given in
-    let verdict = c.judge_step_back.ensures in
-    refused_by (tree ipv4) _ _ told.0.0 (subst (MayRight (tree ipv4) _ _) told.1 verdict)
+returns-in-No c = refused_by (tree ipv4) _ _ c.in-No.refusal c.in-No.ensures

@@ -36,7 +36,7 @@ returns-in_default c =
 pub returns-then-not-well_formed : goal.returns-then-not-well_formed
 returns-then-not-well_formed c =
     let state = sound (goal.at.returns-then-not-well_formed c).In-Sound in
-    let malformed = sym c.well_formed-2.ensures ∙ not-true _ c.if-not-well_formed.true in
+    let malformed = sym c.well_formed-2.ensures ∙ c.if-not-well_formed.true in
     bad_prefix ipv4 (c.args.pool.now) _ state.0 state.1 malformed
 
 pub size_of-own-requires : goal.size_of-own-requires
@@ -51,7 +51,7 @@ next-requires c = fits c
 pub returns : goal.returns
 returns c =
     let state = sound (goal.at.returns c).In-Sound in
-    let formed = sym c.well_formed-2.ensures ∙ not-false _ c.if-not-well_formed.false in
+    let formed = sym c.well_formed-2.ensures ∙ c.if-not-well_formed.false in
     let found = c.next.result in
     next_answer ipv4 laid4 (c.args.pool.now) _ _ (sound_own ipv4 _ _ state) c.size_of-own.ensures _
     (found_number found) (found_value found) state.0 state.1 formed c.next.ensures
