@@ -3,15 +3,12 @@
 use mathlib.Core.Path.{◌≡◌, sym, subst, ◌∙◌}
 use mathlib.Core.Bool.{true, false}
 use native.Mathlib.Omega.{arith}
-use borrow.Author.Tests.{not-true, not-false}
 use Rattle.model.specs.Prefix.{well_formed}
 use Rattle.model.specs.Routes.{holds}
 use Rattle.model.specs.Call.{trial_full}
 use Rattle.route.specs.Means.{route_of}
 use Rattle.pool.specs.Ipv4.{ipv4}
 use Rattle.promise.specs.Trees.{tree}
-use Rattle.verdict.specs.Own.{TestedRight}
-use Rattle.verdict.specs.declared.Verdict.TheVariants.{Sound}
 use Rattle.may.specs.May.{Tells}
 use Rattle.verdict.proofs.Lent.{sound_own}
 use Rattle.may.proofs.Mays.{add_no_1, add_no_2, add_no_3, add_no_4, add_no_5, add_no_6, add_no_7, add_goes}
@@ -31,10 +28,10 @@ good c = sym c.is_good.ensures ∙ c.if-not-is_good.false
 measured : (c : Else-not-is_good-2) → ipv4.rules.good_metric (route_of c.args.route).payload ≡ true
 measured c = sym c.is_good-2.ensures ∙ c.if-not-is_good-2.false
 
-absent : (c : Else-holds) → Tells (tree ipv4) (c.args.pool.now) (λ s. holds (route_of c.args.route).prefix s.routes) false
+absent : (c : Else-holds) → Tells (tree ipv4) c.args.pool.now (λ s. holds (route_of c.args.route).prefix s.routes) false
 absent c = subst (Tells (tree ipv4) _ _) c.if-holds.false c.holds.ensures
 
-roomy : (c : Else-trial_full) → Tells (tree ipv4) (c.args.pool.now) (trial_full ipv4.rules) false
+roomy : (c : Else-trial_full) → Tells (tree ipv4) c.args.pool.now (trial_full ipv4.rules) false
 roomy c = subst (Tells (tree ipv4) _ _) c.if-trial_full.false c.trial_full.ensures
 
 pub returns-then-not-well_formed : goal.returns-then-not-well_formed

@@ -3,7 +3,6 @@
 use mathlib.Core.Path.{◌≡◌, sym, ap, subst, ◌∙◌}
 use mathlib.Core.Bool.{true, false}
 use native.Mathlib.Omega.{arith}
-use borrow.Author.Tests.{not-true, not-false}
 use Rattle.model.specs.Prefix.{well_formed}
 use Rattle.model.specs.Routes.{find, holds}
 use Rattle.model.specs.State.{Hand}
@@ -11,8 +10,6 @@ use Rattle.model.specs.Call.{guarded}
 use Rattle.route.specs.Means.{route_of}
 use Rattle.pool.specs.Ipv4.{ipv4}
 use Rattle.promise.specs.Trees.{tree}
-use Rattle.verdict.specs.Own.{TestedRight}
-use Rattle.verdict.specs.declared.Verdict.TheVariants.{Sound}
 use Rattle.may.specs.May.{Tells}
 use Rattle.verdict.proofs.Lent.{sound_own}
 use Rattle.may.proofs.Mays.{change_no_1, change_no_2, change_no_3, change_no_4, change_no_5, change_no_6, change_goes}
@@ -29,17 +26,17 @@ good c = sym c.is_good.ensures ∙ c.if-not-is_good.false
 measured : (c : Else-not-is_good-2) → ipv4.rules.good_metric (route_of c.args.route).payload ≡ true
 measured c = sym c.is_good-2.ensures ∙ c.if-not-is_good-2.false
 
-held : (c : Else-not-holds) → Tells (tree ipv4) (c.args.pool.now) (λ s. holds (route_of c.args.route).prefix s.routes) true
+held : (c : Else-not-holds) → Tells (tree ipv4) c.args.pool.now (λ s. holds (route_of c.args.route).prefix s.routes) true
 held c = subst (Tells (tree ipv4) _ _) c.if-not-holds.false c.holds.ensures
 
 -- the hand is the origin's
-whose : (c : After-guarded) → Tells (tree ipv4) (c.args.pool.now) (λ s. guarded ipv4.rules (ipv4.rules.hand (route_of c.args.route).payload) (find (route_of c.args.route).prefix s.routes)) c.guarded.result
+whose : (c : After-guarded) → Tells (tree ipv4) c.args.pool.now (λ s. guarded ipv4.rules (ipv4.rules.hand (route_of c.args.route).payload) (find (route_of c.args.route).prefix s.routes)) c.guarded.result
 whose c s m =
     let prefix = (route_of c.args.route).prefix in
     c.guarded.ensures s m ∙ ap (λ (h : Hand). guarded ipv4.rules h (find prefix s.routes)) c.hand.ensures
 
 free : (c : After-guarded) → c.guarded.result ≡ false
-    → Tells (tree ipv4) (c.args.pool.now) (λ s. guarded ipv4.rules (ipv4.rules.hand (route_of c.args.route).payload) (find (route_of c.args.route).prefix s.routes)) false
+    → Tells (tree ipv4) c.args.pool.now (λ s. guarded ipv4.rules (ipv4.rules.hand (route_of c.args.route).payload) (find (route_of c.args.route).prefix s.routes)) false
 free c e = subst (Tells (tree ipv4) _ _) e (whose c)
 
 pub returns-then-not-well_formed : goal.returns-then-not-well_formed

@@ -3,15 +3,12 @@
 use mathlib.Core.Path.{◌≡◌, sym, subst, ◌∙◌}
 use mathlib.Core.Bool.{true, false}
 use native.Mathlib.Omega.{arith}
-use borrow.Author.Tests.{not-true, not-false}
 use Rattle.model.specs.Prefix.{well_formed}
 use Rattle.model.specs.Routes.{find, holds}
 use Rattle.model.specs.Call.{guarded}
 use Rattle.route.specs.Means.{prefix_of, hand_is}
 use Rattle.pool.specs.Ipv4.{ipv4}
 use Rattle.promise.specs.Trees.{tree}
-use Rattle.verdict.specs.Own.{TestedRight}
-use Rattle.verdict.specs.declared.Verdict.TheVariants.{Sound}
 use Rattle.may.specs.May.{Tells}
 use Rattle.verdict.proofs.Lent.{sound_own}
 use Rattle.may.proofs.Mays.{delete_no_1, delete_no_2, delete_no_3, delete_no_4, delete_goes}
@@ -22,10 +19,10 @@ use Rattle.may.proofs.judge.judge_delete.Goals.{Else-guarded, Else-not-holds, El
 formed : (c : Else-not-well_formed) → well_formed 32 (prefix_of c.args.prefix) ≡ true
 formed c = sym c.well_formed-2.ensures ∙ c.if-not-well_formed.false
 
-held : (c : Else-not-holds) → Tells (tree ipv4) (c.args.pool.now) (λ s. holds (prefix_of c.args.prefix) s.routes) true
+held : (c : Else-not-holds) → Tells (tree ipv4) c.args.pool.now (λ s. holds (prefix_of c.args.prefix) s.routes) true
 held c = subst (Tells (tree ipv4) _ _) c.if-not-holds.false c.holds.ensures
 
-free : (c : Else-guarded) → Tells (tree ipv4) (c.args.pool.now) (λ s. guarded ipv4.rules (hand_is c.args.by) (find (prefix_of c.args.prefix) s.routes)) false
+free : (c : Else-guarded) → Tells (tree ipv4) c.args.pool.now (λ s. guarded ipv4.rules (hand_is c.args.by) (find (prefix_of c.args.prefix) s.routes)) false
 free c = subst (Tells (tree ipv4) _ _) c.if-guarded.false c.guarded.ensures
 
 pub returns-then-not-well_formed : goal.returns-then-not-well_formed

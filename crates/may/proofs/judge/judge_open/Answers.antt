@@ -4,8 +4,6 @@ use mathlib.Core.Path.{subst}
 use native.Mathlib.Omega.{arith}
 use Rattle.pool.specs.Ipv4.{ipv4}
 use Rattle.promise.specs.Trees.{tree}
-use Rattle.verdict.specs.Own.{TestedRight}
-use Rattle.verdict.specs.declared.Verdict.TheVariants.{Sound}
 use Rattle.may.specs.May.{Tells}
 use Rattle.verdict.proofs.Lent.{sound_own}
 use Rattle.may.proofs.Mays.{open_goes, open_no_1}
