@@ -2,9 +2,8 @@
 use Prim.Native.Nat.{ℕ, zero, suc}
 use mathlib.Core.Path.{◌≡◌, refl, sym, ◌∙◌}
 use mathlib.Core.Bool.{true, false}
-use mathlib.Core.List.{List, ◌∷◌}
+use mathlib.Core.List.{List}
 use mathlib.Core.Option.{some}
-use native.Mathlib.Omega.{arith}
 use lib.ListN.{get_or}
 use Rattle.model.specs.Prefix.{well_formed}
 use Rattle.model.specs.Ipv4.{Hop as ModelHop, direct, via, reject, Origin as ModelOrigin, fixed, learned, Payload as ModelPayload, good_hop, may_hold}
@@ -16,7 +15,6 @@ use Rattle.route.specs.Answers.{refusal_number}
 use Rattle.route.specs.declared.prefix.Prefix.{Prefix}
 use Rattle.route.specs.declared.hop.Hop.{Hop}
 use Rattle.route.specs.declared.origin.Origin.{Origin}
-use Rattle.route.specs.declared.hop.Route.{Route}
 use Rattle.route.specs.declared.answer.Refusal.{Refusal}
 use Rattle.pool.specs.Ipv4.{ipv4}
 use Rattle.codes.specs.Codes.{prefix_in, hop_in, route_in, hop_words, origin_words}

@@ -177,8 +177,8 @@ pub fn judge_open(pool: &[u32], capacity: usize) -> May
 // 11: to keep a trial and to back out of it.
 pub fn judge_end(pool: &[u32], capacity: usize) -> May
     requires { TestedRight (tree ipv4) pool.now (verdict.Sound capacity) }
-    ensures may_right { MayRight (tree ipv4) call.keep pool.now result }
-    ensures may_right_2 { MayRight (tree ipv4) call.back_out pool.now result }
+    ensures may_keep { MayRight (tree ipv4) call.keep pool.now result }
+    ensures may_back_out { MayRight (tree ipv4) call.back_out pool.now result }
 {
     if !trial_open(pool) {
         return May::No(Refusal::NoTrial);

@@ -1,4 +1,5 @@
 -- One return for each kind, and one for a number that is no kind.
+use borrow.Author.Rules.{rules}
 use Rattle.codes.proofs.Coded.{kind_direct, kind_via, kind_reject, kind_none}
 use Rattle.codes.proofs.hop_from.Goals as goal
 
@@ -12,4 +13,4 @@ pub returns-in-2 : goal.returns-in-2
 returns-in-2 c = kind_reject _ _ _ c.in-2.is
 
 pub returns-in_default : goal.returns-in_default
-returns-in_default c = kind_none _ _ _ c.in_default.rest.0.0.1 c.in_default.rest.0.1 c.in_default.rest.1
+returns-in_default c = kind_none _ _ _ (search rules) (search rules) (search rules)

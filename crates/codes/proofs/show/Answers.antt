@@ -6,10 +6,10 @@ use Rattle.codes.proofs.show.Goals as goal
 
 pub returns-in_default : goal.returns-in_default
 returns-in_default c =
-    let told = c.enum_told-1.given in
-    out_refused told.0.0 (ap found_number told.1) (ap found_value told.1) c.number.ensures (refl, refl)
+    let told = c.in_default in
+    out_refused told.field-0 (ap found_number told.is) (ap found_value told.is) c.number.ensures (refl, refl)
 
 pub returns : goal.returns
 returns c =
-    let told = c.answer-1.given in
-    out_shown _ (ap found_number told.1) (ap found_value told.1) c.words_of-words.ensures (refl, refl)
+    let told = c.in-Route.is in
+    out_shown _ (ap found_number told) (ap found_value told) c.words_of-words.ensures (refl, refl)

@@ -1,47 +1,41 @@
 -- `judge_end` says whether the call may go on. Where it may, the pool's own words are lent to `undo::back_out`,
 -- and `goes` takes what they become to the promise. Where it may not, the pool stays as it is: `refused_by`.
-use mathlib.Core.Path.{refl, sym, subst, ◌∙◌}
+use mathlib.Core.Path.{refl, sym, ◌∙◌}
 use borrow.Author.Rules.{rules}
 use Rattle.model.specs.Call.{back_out}
 use Rattle.pool.specs.Ipv4.{ipv4}
 use Rattle.pool.proofs.Ipv4.{laid4}
 use Rattle.promise.specs.Trees.{tree}
-use Rattle.may.specs.May.{MayRight}
-use Rattle.may.specs.declared.May.TheVariants.{Go}
 use Rattle.known.proofs.Changes.{goes_small, goes_fit, goes_in, goes_accepted, goes, refused_by}
 use Rattle.known.proofs.back_out.Goals as goal
-use Rattle.known.proofs.back_out.Goals.{In-Go}
-
-go : (c : In-Go) → MayRight (tree ipv4) back_out (c.args.pool.now) (Go c.in-Go.capacity)
-go c = subst (MayRight (tree ipv4) back_out (c.args.pool.now)) c.in-Go.is c.judge_end.ensures.may_right_2
 
 pub judge_end-requires : goal.judge_end-requires
 judge_end-requires c = c.requires
 
 pub size_of-own-requires : goal.size_of-own-requires
-size_of-own-requires c =
-    goes_small ipv4 laid4 back_out _ _ (go c)
+size_of-own-requires c = goes_small ipv4 laid4 back_out c.args.pool.now _ c.in-Go.ensures.may_back_out
 
 pub slice_bounds-back_out-end : goal.slice_bounds-back_out-end
 slice_bounds-back_out-end c =
-    goes_in ipv4 laid4 back_out _ _ _ (go (goal.at.slice_bounds-back_out-end c).In-Go) c.size_of-own.ensures
+    goes_in ipv4 laid4 back_out c.args.pool.now _ _ c.in-Go.ensures.may_back_out c.size_of-own.ensures
 
 pub slice_bounds-back_out-end-in-Go : goal.slice_bounds-back_out-end-in-Go
 slice_bounds-back_out-end-in-Go c =
     let sized = c.size_of-own.ensures in
-    sized ∙ sym (goes_fit ipv4 laid4 back_out _ _ _ (go (goal.at.slice_bounds-back_out-end-in-Go c).In-Go) sized).1
+    sized ∙ sym (goes_fit ipv4 laid4 back_out c.args.pool.now _ _ c.in-Go.ensures.may_back_out sized).1
 
 pub back_out-requires : goal.back_out-requires
 back_out-requires c =
-    let sized = c.size_of-own.ensures in record { fit = goes_fit ipv4 laid4 back_out _ _ _ (go (goal.at.back_out-requires c).In-Go) sized; accepted = goes_accepted ipv4 laid4 back_out _ _ _ (go (goal.at.back_out-requires c).In-Go) sized }
+    let sized = c.size_of-own.ensures in
+    record {
+      fit = goes_fit ipv4 laid4 back_out c.args.pool.now _ _ c.in-Go.ensures.may_back_out sized;
+      accepted = goes_accepted ipv4 laid4 back_out c.args.pool.now _ _ c.in-Go.ensures.may_back_out sized;
+    }
 
 pub returns-in-Go : goal.returns-in-Go
 returns-in-Go c =
     let done = c.back_out in
-    goes ipv4 laid4 _ _ _ _ (go (goal.at.returns-in-Go c).In-Go) c.size_of-own.ensures done.new.0 (search rules) refl done.ensures
+    goes ipv4 laid4 _ _ _ _ c.in-Go.ensures.may_back_out c.size_of-own.ensures done.new.pool (search rules) refl done.ensures
 
 pub returns-in-No : goal.returns-in-No
-returns-in-No c =
-    let told = c.refusal-1.given in
-    let verdict = c.judge_end.ensures.may_right_2 in
-    refused_by (tree ipv4) _ _ told.0.0 (subst (MayRight (tree ipv4) _ _) told.1 verdict)
+returns-in-No c = refused_by (tree ipv4) _ _ c.in-No.refusal c.in-No.ensures.may_back_out

@@ -7,7 +7,8 @@ use Rattle.rehearsal.proofs.rehearse.Goals as goal
 
 pub returns-in_default : goal.returns-in_default
 returns-in_default c =
-    not_begun c.args.pool.now _ _ c.in_default.field-0 c.fresh.ensures (ap done_number c.in_default.is)
+    let refused = not_begun c.args.pool.now _ _ c.in_default.field-0 c.fresh.ensures (ap done_number c.in_default.is) in
+    record { value = refused.0; ran = refused.1.0; routes_value = refused.1.1 }
 
 pub shape_of-pool : goal.shape_of-pool
 shape_of-pool c =
@@ -37,4 +38,4 @@ returns c =
     c.open_trial-2.ensures
     c.delete-3.ensures
     c.back_out.ensures in
-    (λ h. refl, (λ h. ran, λ h. followed_routes _ _ ran))
+    record { value = λ h. refl; ran = λ h. ran; routes_value = λ h. followed_routes _ _ ran }

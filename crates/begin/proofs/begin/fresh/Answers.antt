@@ -31,5 +31,5 @@ slice_bounds-clear-end-2 c =
 pub returns : goal.returns
 returns c =
     let some = c.if-capacity-eq0.false in
-    begins_cleared ipv4 laid4 _ c.clear.new.0 _ _ some (omega (arith, c.if-capacity-gt-LIMIT.false))
+    begins_cleared ipv4 laid4 _ c.clear.new.pool _ _ some (omega (arith, c.if-capacity-gt-LIMIT.false))
     (sized (goal.at.returns c).After-size_of-own) c.if-pool-own.false c.clear.ensures

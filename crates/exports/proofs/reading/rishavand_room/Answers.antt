@@ -6,12 +6,12 @@ use Rattle.exports.proofs.reading.rishavand_room.Goals as goal
 
 pub returns-in_default : goal.returns-in_default
 returns-in_default c =
-    let told = c.enum_told-1.given in
+    let told = c.in_default in
     let promise = c.room_left-answer.ensures in
-    out_refused told.0.0 (ap room_number told.1) (ap room_value told.1) c.number.ensures promise
+    out_refused told.field-0 (ap room_number told.is) (ap room_value told.is) c.number.ensures promise
 
 pub returns : goal.returns
 returns c =
-    let told = c.answer-1.given in
+    let told = c.in-Left in
     let promise = c.room_left-answer.ensures in
-    out_shown _ (ap room_number told.1) (ap room_value told.1) refl promise
+    out_shown _ (ap room_number told.is) (ap room_value told.is) refl promise

@@ -1,11 +1,10 @@
 -- By what the search found: the payload in that place (`guarded_at`), or none (`guarded_absent`, `guarded_damaged`).
-use mathlib.Core.Path.{ap, subst, ◌∙◌}
+use mathlib.Core.Path.{ap, ◌∙◌}
 use native.Mathlib.Omega.{arith}
 use Rattle.model.specs.Ipv4.{Payload}
 use Rattle.model.specs.State.{Hand, guards}
 use Rattle.route.specs.Means.{hand_is}
 use Rattle.pool.specs.Ipv4.{ipv4}
-use Rattle.search.specs.Find.{Finds}
 use Rattle.may.proofs.Mays.{guarded_at, guarded_absent, guarded_damaged}
 use Rattle.may.proofs.judge.guarded_in.Goals as goal
 

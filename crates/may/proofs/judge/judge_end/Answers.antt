@@ -1,30 +1,25 @@
--- A test of the trial that fails is `keep-no-K`,
+-- A test of the trial that fails is `keep_no_K`,
 -- and past the last stands `keep_goes`. Keep and back out have the same numbers, so each law serves both.
 use mathlib.Core.Path.{subst}
 use native.Mathlib.Omega.{arith}
-use borrow.Author.Tests.{not-true, not-false}
 use Rattle.pool.specs.Ipv4.{ipv4}
 use Rattle.promise.specs.Trees.{tree}
-use Rattle.verdict.specs.Own.{TestedRight}
-use Rattle.verdict.specs.declared.Verdict.TheVariants.{Sound}
 use Rattle.may.specs.May.{Tells}
 use Rattle.verdict.proofs.Lent.{sound_own}
 use Rattle.may.proofs.Mays.{keep_goes, keep_no_1}
 use Rattle.may.proofs.judge.judge_end.Goals as goal
-use Rattle.may.proofs.judge.judge_end.Goals.{Start}
-
-sound : (c : Start) → TestedRight (tree ipv4) (c.args.pool.now) (Sound c.args.capacity)
-sound c = c.requires
 
 pub trial_open-requires : goal.trial_open-requires
-trial_open-requires c = omega (arith, (sound_own ipv4 _ _ (sound (goal.at.trial_open-requires c).Start)).3)
+trial_open-requires c = omega (arith, (sound_own ipv4 _ _ c.requires).3)
 
 pub returns-then-not-trial_open : goal.returns-then-not-trial_open
 returns-then-not-trial_open c =
-    let state = sound (goal.at.returns-then-not-trial_open c).Start in
-    let shut = subst (Tells (tree ipv4) _ _) (not-true _ c.if-not-trial_open.true) c.trial_open.ensures in record { may_right = keep_no_1 (tree ipv4) _ state.0 state.1 shut; may_right_2 = keep_no_1 (tree ipv4) _ state.0 state.1 shut }
+    let state = c.requires in
+    let shut = subst (Tells (tree ipv4) _ _) c.if-not-trial_open.true c.trial_open.ensures in
+    record { may_keep = keep_no_1 (tree ipv4) _ state.0 state.1 shut; may_back_out = keep_no_1 (tree ipv4) _ state.0 state.1 shut }
 
 pub returns : goal.returns
 returns c =
-    let state = sound (goal.at.returns c).Start in
-    let open-now = subst (Tells (tree ipv4) _ _) (not-false _ c.if-not-trial_open.false) c.trial_open.ensures in record { may_right = keep_goes (tree ipv4) _ state.0 state.1 _ state.2 open-now; may_right_2 = keep_goes (tree ipv4) _ state.0 state.1 _ state.2 open-now }
+    let state = c.requires in
+    let open-now = subst (Tells (tree ipv4) _ _) c.if-not-trial_open.false c.trial_open.ensures in
+    record { may_keep = keep_goes (tree ipv4) _ state.0 state.1 _ state.2 open-now; may_back_out = keep_goes (tree ipv4) _ state.0 state.1 _ state.2 open-now }

@@ -1,25 +1,22 @@
 -- `tested` says whether the pool is sound. Where it is not, the call is refused with 9: `no_unsound`. Where it is, the promise is that
 -- of the call in a pool that is known to be.
-use mathlib.Core.Path.{refl, subst}
+use mathlib.Core.Path.{refl}
 use Rattle.model.specs.Call.{add}
 use Rattle.route.specs.Means.{route_of}
 use Rattle.route.specs.declared.answer.Refusal.TheVariants as why
 use Rattle.pool.specs.Ipv4.{ipv4}
 use Rattle.promise.specs.Trees.{tree}
-use Rattle.verdict.specs.Own.{TestedRight}
 use Rattle.may.proofs.Mays.{no_unsound}
 use Rattle.known.proofs.Changes.{refused_by}
 use Rattle.table.proofs.change.add.Goals as goal
 
 pub returns-in_default : goal.returns-in_default
 returns-in_default c =
-    let args = c.args in
     let unsound = c.in_default.ensures in
-    refused_by (tree ipv4) (add (route_of args.route)) _ why.NotSound (no_unsound (tree ipv4) (add (route_of args.route)) _ refl unsound)
+    refused_by (tree ipv4) (add (route_of c.args.route)) _ why.NotSound (no_unsound (tree ipv4) (add (route_of c.args.route)) _ refl unsound)
 
 pub add-requires : goal.add-requires
-add-requires c =
-    c.in-Sound.ensures
+add-requires c = c.in-Sound.ensures
 
 pub returns : goal.returns
 returns c = c.add.ensures
