@@ -26,11 +26,7 @@ impl Origin {
             Origin::Fixed => true,
             Origin::Learned(metric) => {
                 let zero = metric.0 == 0;
-                if zero {
-                    false
-                } else {
-                    metric.0 <= LAST_METRIC
-                }
+                if zero { false } else { metric.0 <= LAST_METRIC }
             }
         }
     }
