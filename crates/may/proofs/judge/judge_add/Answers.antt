@@ -49,13 +49,18 @@ returns-then-not-may_be_held c =
 pub returns-then-not-is_good : goal.returns-then-not-is_good
 returns-then-not-is_good c =
     let state = c.requires in
-    add_no_3 (tree ipv4) _ state.0 state.1 (route_of c.args.route) (formed (goal.at.returns-then-not-is_good c).Else-not-well_formed) (holdable (goal.at.returns-then-not-is_good c).Else-not-may_be_held)
+    add_no_3 (tree ipv4) _ state.0 state.1 (route_of c.args.route)
+    (formed (goal.at.returns-then-not-is_good c).Else-not-well_formed)
+    (holdable (goal.at.returns-then-not-is_good c).Else-not-may_be_held)
     (sym c.is_good.ensures ∙ c.if-not-is_good.true)
 
 pub returns-then-not-is_good-2 : goal.returns-then-not-is_good-2
 returns-then-not-is_good-2 c =
     let state = c.requires in
-    add_no_4 (tree ipv4) _ state.0 state.1 (route_of c.args.route) (formed (goal.at.returns-then-not-is_good-2 c).Else-not-well_formed) (holdable (goal.at.returns-then-not-is_good-2 c).Else-not-may_be_held) (good (goal.at.returns-then-not-is_good-2 c).Else-not-is_good)
+    add_no_4 (tree ipv4) _ state.0 state.1 (route_of c.args.route)
+    (formed (goal.at.returns-then-not-is_good-2 c).Else-not-well_formed)
+    (holdable (goal.at.returns-then-not-is_good-2 c).Else-not-may_be_held)
+    (good (goal.at.returns-then-not-is_good-2 c).Else-not-is_good)
     (sym c.is_good-2.ensures ∙ c.if-not-is_good-2.true)
 
 pub holds-requires : goal.holds-requires
@@ -64,7 +69,11 @@ holds-requires c = c.requires
 pub returns-then-holds : goal.returns-then-holds
 returns-then-holds c =
     let state = c.requires in
-    add_no_5 (tree ipv4) _ state.0 state.1 (route_of c.args.route) (formed (goal.at.returns-then-holds c).Else-not-well_formed) (holdable (goal.at.returns-then-holds c).Else-not-may_be_held) (good (goal.at.returns-then-holds c).Else-not-is_good) (measured (goal.at.returns-then-holds c).Else-not-is_good-2)
+    add_no_5 (tree ipv4) _ state.0 state.1 (route_of c.args.route)
+    (formed (goal.at.returns-then-holds c).Else-not-well_formed)
+    (holdable (goal.at.returns-then-holds c).Else-not-may_be_held)
+    (good (goal.at.returns-then-holds c).Else-not-is_good)
+    (measured (goal.at.returns-then-holds c).Else-not-is_good-2)
     (subst (Tells (tree ipv4) _ _) c.if-holds.true c.holds.ensures)
 
 pub trial_full-requires : goal.trial_full-requires
@@ -73,7 +82,12 @@ trial_full-requires c = omega (arith, (sound_own ipv4 _ _ c.requires).3)
 pub returns-then-trial_full : goal.returns-then-trial_full
 returns-then-trial_full c =
     let state = c.requires in
-    add_no_6 (tree ipv4) _ state.0 state.1 (route_of c.args.route) (formed (goal.at.returns-then-trial_full c).Else-not-well_formed) (holdable (goal.at.returns-then-trial_full c).Else-not-may_be_held) (good (goal.at.returns-then-trial_full c).Else-not-is_good) (measured (goal.at.returns-then-trial_full c).Else-not-is_good-2) (absent (goal.at.returns-then-trial_full c).Else-holds)
+    add_no_6 (tree ipv4) _ state.0 state.1 (route_of c.args.route)
+    (formed (goal.at.returns-then-trial_full c).Else-not-well_formed)
+    (holdable (goal.at.returns-then-trial_full c).Else-not-may_be_held)
+    (good (goal.at.returns-then-trial_full c).Else-not-is_good)
+    (measured (goal.at.returns-then-trial_full c).Else-not-is_good-2)
+    (absent (goal.at.returns-then-trial_full c).Else-holds)
     (subst (Tells (tree ipv4) _ _) c.if-trial_full.true c.trial_full.ensures)
 
 pub table_full-requires : goal.table_full-requires
@@ -82,11 +96,21 @@ table_full-requires c = omega (arith, (sound_own ipv4 _ _ c.requires).3)
 pub returns-then-table_full : goal.returns-then-table_full
 returns-then-table_full c =
     let state = c.requires in
-    add_no_7 (tree ipv4) _ state.0 state.1 (route_of c.args.route) (formed (goal.at.returns-then-table_full c).Else-not-well_formed) (holdable (goal.at.returns-then-table_full c).Else-not-may_be_held) (good (goal.at.returns-then-table_full c).Else-not-is_good) (measured (goal.at.returns-then-table_full c).Else-not-is_good-2) (absent (goal.at.returns-then-table_full c).Else-holds) (roomy (goal.at.returns-then-table_full c).Else-trial_full)
+    add_no_7 (tree ipv4) _ state.0 state.1 (route_of c.args.route)
+    (formed (goal.at.returns-then-table_full c).Else-not-well_formed)
+    (holdable (goal.at.returns-then-table_full c).Else-not-may_be_held)
+    (good (goal.at.returns-then-table_full c).Else-not-is_good)
+    (measured (goal.at.returns-then-table_full c).Else-not-is_good-2)
+    (absent (goal.at.returns-then-table_full c).Else-holds) (roomy (goal.at.returns-then-table_full c).Else-trial_full)
     (subst (Tells (tree ipv4) _ _) c.if-table_full.true c.table_full.ensures)
 
 pub returns : goal.returns
 returns c =
     let state = c.requires in
-    add_goes (tree ipv4) _ state.0 state.1 (route_of c.args.route) (formed (goal.at.returns c).Else-not-well_formed) (holdable (goal.at.returns c).Else-not-may_be_held) (good (goal.at.returns c).Else-not-is_good) (measured (goal.at.returns c).Else-not-is_good-2) _ state.2 (absent (goal.at.returns c).Else-holds) (roomy (goal.at.returns c).Else-trial_full)
+    add_goes (tree ipv4) _ state.0 state.1 (route_of c.args.route)
+    (formed (goal.at.returns c).Else-not-well_formed)
+    (holdable (goal.at.returns c).Else-not-may_be_held)
+    (good (goal.at.returns c).Else-not-is_good)
+    (measured (goal.at.returns c).Else-not-is_good-2)
+    _ state.2 (absent (goal.at.returns c).Else-holds) (roomy (goal.at.returns c).Else-trial_full)
     (subst (Tells (tree ipv4) _ _) c.if-table_full.false c.table_full.ensures)

@@ -30,7 +30,8 @@ held : (c : Else-not-holds) → Tells (tree ipv4) c.args.pool.now (λ s. holds (
 held c = subst (Tells (tree ipv4) _ _) c.if-not-holds.false c.holds.ensures
 
 -- the hand is the origin's
-whose : (c : After-guarded) → Tells (tree ipv4) c.args.pool.now (λ s. guarded ipv4.rules (ipv4.rules.hand (route_of c.args.route).payload) (find (route_of c.args.route).prefix s.routes)) c.guarded.result
+whose : (c : After-guarded)
+    → Tells (tree ipv4) c.args.pool.now (λ s. guarded ipv4.rules (ipv4.rules.hand (route_of c.args.route).payload) (find (route_of c.args.route).prefix s.routes)) c.guarded.result
 whose c s m =
     let prefix = (route_of c.args.route).prefix in
     c.guarded.ensures s m ∙ ap (λ (h : Hand). guarded ipv4.rules h (find prefix s.routes)) c.hand.ensures
@@ -54,7 +55,9 @@ returns-then-not-is_good c =
 pub returns-then-not-is_good-2 : goal.returns-then-not-is_good-2
 returns-then-not-is_good-2 c =
     let state = c.requires in
-    change_no_3 (tree ipv4) _ state.0 state.1 (route_of c.args.route) (formed (goal.at.returns-then-not-is_good-2 c).Else-not-well_formed) (good (goal.at.returns-then-not-is_good-2 c).Else-not-is_good)
+    change_no_3 (tree ipv4) _ state.0 state.1 (route_of c.args.route)
+    (formed (goal.at.returns-then-not-is_good-2 c).Else-not-well_formed)
+    (good (goal.at.returns-then-not-is_good-2 c).Else-not-is_good)
     (sym c.is_good-2.ensures ∙ c.if-not-is_good-2.true)
 
 pub holds-requires : goal.holds-requires
@@ -63,7 +66,10 @@ holds-requires c = c.requires
 pub returns-then-not-holds : goal.returns-then-not-holds
 returns-then-not-holds c =
     let state = c.requires in
-    change_no_4 (tree ipv4) _ state.0 state.1 (route_of c.args.route) (formed (goal.at.returns-then-not-holds c).Else-not-well_formed) (good (goal.at.returns-then-not-holds c).Else-not-is_good) (measured (goal.at.returns-then-not-holds c).Else-not-is_good-2)
+    change_no_4 (tree ipv4) _ state.0 state.1 (route_of c.args.route)
+    (formed (goal.at.returns-then-not-holds c).Else-not-well_formed)
+    (good (goal.at.returns-then-not-holds c).Else-not-is_good)
+    (measured (goal.at.returns-then-not-holds c).Else-not-is_good-2)
     (subst (Tells (tree ipv4) _ _) c.if-not-holds.true c.holds.ensures)
 
 pub guarded-requires : goal.guarded-requires
@@ -72,7 +78,11 @@ guarded-requires c = c.requires
 pub returns-then-guarded : goal.returns-then-guarded
 returns-then-guarded c =
     let state = c.requires in
-    change_no_5 (tree ipv4) _ state.0 state.1 (route_of c.args.route) (formed (goal.at.returns-then-guarded c).Else-not-well_formed) (good (goal.at.returns-then-guarded c).Else-not-is_good) (measured (goal.at.returns-then-guarded c).Else-not-is_good-2) (held (goal.at.returns-then-guarded c).Else-not-holds)
+    change_no_5 (tree ipv4) _ state.0 state.1 (route_of c.args.route)
+    (formed (goal.at.returns-then-guarded c).Else-not-well_formed)
+    (good (goal.at.returns-then-guarded c).Else-not-is_good)
+    (measured (goal.at.returns-then-guarded c).Else-not-is_good-2)
+    (held (goal.at.returns-then-guarded c).Else-not-holds)
     (subst (Tells (tree ipv4) _ _) c.if-guarded.true (whose (goal.at.returns-then-guarded c).After-guarded))
 
 pub trial_full-requires : goal.trial_full-requires
@@ -81,11 +91,22 @@ trial_full-requires c = omega (arith, (sound_own ipv4 _ _ c.requires).3)
 pub returns-then-trial_full : goal.returns-then-trial_full
 returns-then-trial_full c =
     let state = c.requires in
-    change_no_6 (tree ipv4) _ state.0 state.1 (route_of c.args.route) (formed (goal.at.returns-then-trial_full c).Else-not-well_formed) (good (goal.at.returns-then-trial_full c).Else-not-is_good) (measured (goal.at.returns-then-trial_full c).Else-not-is_good-2) (held (goal.at.returns-then-trial_full c).Else-not-holds) (free (goal.at.returns-then-trial_full c).After-guarded c.if-guarded.false)
+    change_no_6 (tree ipv4) _ state.0 state.1 (route_of c.args.route)
+    (formed (goal.at.returns-then-trial_full c).Else-not-well_formed)
+    (good (goal.at.returns-then-trial_full c).Else-not-is_good)
+    (measured (goal.at.returns-then-trial_full c).Else-not-is_good-2)
+    (held (goal.at.returns-then-trial_full c).Else-not-holds)
+    (free (goal.at.returns-then-trial_full c).After-guarded c.if-guarded.false)
     (subst (Tells (tree ipv4) _ _) c.if-trial_full.true c.trial_full.ensures)
 
 pub returns : goal.returns
 returns c =
     let state = c.requires in
-    change_goes (tree ipv4) _ state.0 state.1 (route_of c.args.route) (formed (goal.at.returns c).Else-not-well_formed) (good (goal.at.returns c).Else-not-is_good) (measured (goal.at.returns c).Else-not-is_good-2) (held (goal.at.returns c).Else-not-holds) _ state.2 (free (goal.at.returns c).After-guarded c.if-guarded.false)
+    change_goes (tree ipv4) _ state.0 state.1 (route_of c.args.route)
+    (formed (goal.at.returns c).Else-not-well_formed)
+    (good (goal.at.returns c).Else-not-is_good)
+    (measured (goal.at.returns c).Else-not-is_good-2)
+    (held (goal.at.returns c).Else-not-holds)
+    _ state.2
+    (free (goal.at.returns c).After-guarded c.if-guarded.false)
     (subst (Tells (tree ipv4) _ _) c.if-trial_full.false c.trial_full.ensures)

@@ -37,7 +37,8 @@ holds-requires c = c.requires
 pub returns-then-not-holds : goal.returns-then-not-holds
 returns-then-not-holds c =
     let state = c.requires in
-    delete_no_2 (tree ipv4) _ state.0 state.1 (hand_is c.args.by) (prefix_of c.args.prefix) (formed (goal.at.returns-then-not-holds c).Else-not-well_formed)
+    delete_no_2 (tree ipv4) _ state.0 state.1 (hand_is c.args.by) (prefix_of c.args.prefix)
+    (formed (goal.at.returns-then-not-holds c).Else-not-well_formed)
     (subst (Tells (tree ipv4) _ _) c.if-not-holds.true c.holds.ensures)
 
 pub guarded-requires : goal.guarded-requires
@@ -46,7 +47,9 @@ guarded-requires c = c.requires
 pub returns-then-guarded : goal.returns-then-guarded
 returns-then-guarded c =
     let state = c.requires in
-    delete_no_3 (tree ipv4) _ state.0 state.1 (hand_is c.args.by) (prefix_of c.args.prefix) (formed (goal.at.returns-then-guarded c).Else-not-well_formed) (held (goal.at.returns-then-guarded c).Else-not-holds)
+    delete_no_3 (tree ipv4) _ state.0 state.1 (hand_is c.args.by) (prefix_of c.args.prefix)
+    (formed (goal.at.returns-then-guarded c).Else-not-well_formed)
+    (held (goal.at.returns-then-guarded c).Else-not-holds)
     (subst (Tells (tree ipv4) _ _) c.if-guarded.true c.guarded.ensures)
 
 pub trial_full-requires : goal.trial_full-requires
@@ -55,11 +58,18 @@ trial_full-requires c = omega (arith, (sound_own ipv4 _ _ c.requires).3)
 pub returns-then-trial_full : goal.returns-then-trial_full
 returns-then-trial_full c =
     let state = c.requires in
-    delete_no_4 (tree ipv4) _ state.0 state.1 (hand_is c.args.by) (prefix_of c.args.prefix) (formed (goal.at.returns-then-trial_full c).Else-not-well_formed) (held (goal.at.returns-then-trial_full c).Else-not-holds) (free (goal.at.returns-then-trial_full c).Else-guarded)
+    delete_no_4 (tree ipv4) _ state.0 state.1 (hand_is c.args.by) (prefix_of c.args.prefix)
+    (formed (goal.at.returns-then-trial_full c).Else-not-well_formed)
+    (held (goal.at.returns-then-trial_full c).Else-not-holds)
+    (free (goal.at.returns-then-trial_full c).Else-guarded)
     (subst (Tells (tree ipv4) _ _) c.if-trial_full.true c.trial_full.ensures)
 
 pub returns : goal.returns
 returns c =
     let state = c.requires in
-    delete_goes (tree ipv4) _ state.0 state.1 (hand_is c.args.by) (prefix_of c.args.prefix) (formed (goal.at.returns c).Else-not-well_formed) (held (goal.at.returns c).Else-not-holds) _ state.2 (free (goal.at.returns c).Else-guarded)
+    delete_goes (tree ipv4) _ state.0 state.1 (hand_is c.args.by) (prefix_of c.args.prefix)
+    (formed (goal.at.returns c).Else-not-well_formed)
+    (held (goal.at.returns c).Else-not-holds)
+    _ state.2
+    (free (goal.at.returns c).Else-guarded)
     (subst (Tells (tree ipv4) _ _) c.if-trial_full.false c.trial_full.ensures)

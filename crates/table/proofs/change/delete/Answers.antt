@@ -13,7 +13,8 @@ use Rattle.table.proofs.change.delete.Goals as goal
 pub returns-in_default : goal.returns-in_default
 returns-in_default c =
     let unsound = c.in_default.ensures in
-    refused_by (tree ipv4) (delete (hand_is c.args.by) (prefix_of c.args.prefix)) _ why.NotSound (no_unsound (tree ipv4) (delete (hand_is c.args.by) (prefix_of c.args.prefix)) _ refl unsound)
+    refused_by (tree ipv4) (delete (hand_is c.args.by) (prefix_of c.args.prefix)) _ why.NotSound
+    (no_unsound (tree ipv4) (delete (hand_is c.args.by) (prefix_of c.args.prefix)) _ refl unsound)
 
 pub delete-requires : goal.delete-requires
 delete-requires c = c.in-Sound.ensures
