@@ -35,11 +35,13 @@ returns-then-mark_at-parted c =
 pub loop-level-preserved : goal.loop-level-preserved
 loop-level-preserved c =
     let parted = c.args.parted in
-    let here : parted < mark_at ipv4 c.args.capacity c.args.pool.now (get_or c.args.inner.now (c.loop-level.level - 1) 0) = subst (λ (n : ℕ). parted < n) c.mark_at.ensures c.if-mark_at-parted.false in (
+    let mark = λ (k : ℕ). mark_at ipv4 c.args.capacity c.args.pool.now (get_or c.args.inner.now k 0) in
+    let below = c.loop-level.level - 1 in
+    let here : parted < mark below = subst (λ (n : ℕ). parted < n) c.mark_at.ensures c.if-mark_at-parted.false in (
       omega arith,
-      λ m h l. ⊎_elim (λ e. subst (λ (x : ℕ). parted < mark_at ipv4 c.args.capacity c.args.pool.now (get_or c.args.inner.now x 0)) (sym e) here)
+      λ m h l. ⊎_elim (λ e. subst (λ (x : ℕ). parted < mark x) (sym e) here)
           (λ n. c.loop-level.invariant.1 m (omega arith) l)
-          (eq_or_ne m (c.loop-level.level - 1)),
+          (eq_or_ne m below),
     )
 
 pub returns : goal.returns
