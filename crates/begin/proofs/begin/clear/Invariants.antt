@@ -1,4 +1,4 @@
--- `table::begin::clear` meets its contract. The loop's invariant: the words below `i` are 0 and those from `i` on are as they were.
+-- `clear` meets its contract. The loop's invariant: the words below `i` are 0 and those from `i` on are as they were.
 -- The measure is what is left of the length.
 use Prim.Native.Nat.{◌-◌, ◌≤◌}
 use mathlib.Core.Path.{◌≡◌}
