@@ -51,7 +51,8 @@ pub fn decimal(s: &[u8]) -> Number
         if b < b'0' {
             return Number::Bad;
         }
-        if b'9' < b {
+        let is_above = b'9' < b;
+        if is_above {
             return Number::Bad;
         }
         value = value * 10 + wide(b - b'0');

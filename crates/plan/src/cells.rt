@@ -49,7 +49,8 @@ pub fn chain_cell(pool: &[u32], capacity: usize, from: usize, first: Place, leng
     let mut place = first;
     loop {
         let held = pool::prefix_at(pool, pool::seat(place) + pool::PREFIX_OFFSET);
-        if held.length.0 <= length.0 {
+        let is_here = held.length.0 <= length.0;
+        if is_here {
             return cell;
         }
         cell = pool::seat(place) + pool::NEXT_OFFSET;

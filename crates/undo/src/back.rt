@@ -18,12 +18,14 @@ fn take_back(pool: &mut [u32], capacity: usize)
     let at = pool::slot(capacity, pool::wide(standing - 1));
     let action = pool[at];
     let prefix = pool::prefix_at(pool, at + pool::CHANGED_OFFSET);
-    if action == 1 {
+    let was_added = action == 1;
+    if was_added {
         edit::take_out(pool, capacity, prefix);
         return;
     }
     let payload = pool::payload_at(pool, at + pool::OLD_OFFSET);
-    if action == 2 {
+    let was_deleted = action == 2;
+    if was_deleted {
         edit::put_in(pool, capacity, Route { prefix, payload });
         return;
     }

@@ -11,7 +11,7 @@ use Rattle.rows.proofs.Rows.{two_more}
 use Rattle.enter_rows.proofs.put_first.Goals as goal
 
 pub bounds-pool-1-2 : goal.bounds-pool-1-2
-bounds-pool-1-2 c = simp length-set (omega arith)
+bounds-pool-1-2 c = omega (arith, length-set c.write_route.new.pool 2 c.route_link.result)
 
 pub returns : goal.returns
 returns c =

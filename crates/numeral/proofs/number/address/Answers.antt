@@ -1,4 +1,4 @@
--- Four octets are read, one behind the other: `first` to `fourth` say where each ends and what the number is by then.
+-- Four octets are read, one behind the other, and each arm says where its octet ends and what the number is by then.
 -- Where one is missing, and where more stands behind the fourth, the words spell no address; else they do: `address_read`.
 use borrow.Author.Rules.{rules}
 use native.Mathlib.Omega.{arith}

@@ -13,8 +13,8 @@ pub returns-then-b-lt48 : goal.returns-then-b-lt48
 returns-then-b-lt48 c =
     λ n some h fits. omega (arith, (next _ _ _ (search rules) c.loop-i.invariant.2 n h).0)
 
-pub returns-then-b-gt57 : goal.returns-then-b-gt57
-returns-then-b-gt57 c =
+pub returns-then-is_above : goal.returns-then-is_above
+returns-then-is_above c =
     λ n some h fits. omega (arith, (next _ _ _ (search rules) c.loop-i.invariant.2 n h).1)
 
 pub returns-then-value-gt-LARGEST : goal.returns-then-value-gt-LARGEST

@@ -30,10 +30,10 @@ below c = ap (λ (n : ℕ). n + ipv4.next_offset) c.seat-cell.ensures
 pub loop-length-init : goal.loop-length-init
 loop-length-init c = (c.requires.first_lt_capacity, inl refl, chain_start ipv4 _ _ _ _ _)
 
-pub returns-then-held-length : goal.returns-then-held-length
-returns-then-held-length c =
+pub returns-then-is_here : goal.returns-then-is_here
+returns-then-is_here c =
     let inv = c.loop-length.invariant in
-    chain_here ipv4 _ _ _ _ _ _ _ inv.2 inv.1 (omega (arith, held (goal.at.returns-then-held-length c).After-prefix_at-held))
+    chain_here ipv4 _ _ _ _ _ _ _ inv.2 inv.1 (omega (arith, held (goal.at.returns-then-is_here c).After-prefix_at-held))
 
 pub loop-length-smaller : goal.loop-length-smaller
 loop-length-smaller c =

@@ -36,17 +36,17 @@ prefix_at-prefix-requires c = omega (arith, fits (goal.at.prefix_at-prefix-requi
 pub take_out-requires : goal.take_out-requires
 take_out-requires c =
     let read = c.prefix_at-prefix.ensures in
-    let take = to_take ipv4 _ _ _ c.requires.accepted.1 _ (place (goal.at.take_out-requires c).After-slot-at) _ read (λ z. omega (arith, z, c.if-action-eq1.true)) in
+    let take = to_take ipv4 _ _ _ c.requires.accepted.1 _ (place (goal.at.take_out-requires c).After-slot-at) _ read (λ z. omega (arith, z, c.if-was_added.true)) in
     record {
       fit = c.requires.fit;
       to_take = (c.requires.accepted.0, take);
     }
 
-pub returns-then-action-eq1 : goal.returns-then-action-eq1
-returns-then-action-eq1 c =
-    let at = place (goal.at.returns-then-action-eq1 c).After-slot-at in
+pub returns-then-was_added : goal.returns-then-was_added
+returns-then-was_added c =
+    let at = place (goal.at.returns-then-was_added c).After-slot-at in
     let read = c.prefix_at-prefix.ensures in
-    let one = c.if-action-eq1.true in
+    let one = c.if-was_added.true in
     λ s a. add_undone ipv4 _ _ s a _ at _ read _ one
     (c.take_out.ensures s (to_take ipv4 _ _ s a _ at _ read (λ z. omega (arith, z, one))))
 
@@ -61,25 +61,25 @@ payload_at-payload-requires c =
 pub put_in-requires : goal.put_in-requires
 put_in-requires c =
     let read = c.prefix_at-prefix.ensures in
-    let put = to_put ipv4 _ _ _ c.requires.accepted.1 _ (place (goal.at.put_in-requires c).After-slot-at) _ read _ c.payload_at-payload.ensures c.if-action-eq2.true in
+    let put = to_put ipv4 _ _ _ c.requires.accepted.1 _ (place (goal.at.put_in-requires c).After-slot-at) _ read _ c.payload_at-payload.ensures c.if-was_deleted.true in
     record {
       fit = c.requires.fit;
       to_put = (c.requires.accepted.0, put);
     }
 
-pub returns-then-action-eq2 : goal.returns-then-action-eq2
-returns-then-action-eq2 c =
-    let at = place (goal.at.returns-then-action-eq2 c).After-slot-at in
+pub returns-then-was_deleted : goal.returns-then-was_deleted
+returns-then-was_deleted c =
+    let at = place (goal.at.returns-then-was_deleted c).After-slot-at in
     let read = c.prefix_at-prefix.ensures in
     let old = c.payload_at-payload.ensures in
-    let two = c.if-action-eq2.true in
+    let two = c.if-was_deleted.true in
     λ s a. delete_undone ipv4 _ _ s a _ at _ read _ old _ two
     (c.put_in.ensures s (to_put ipv4 _ _ s a _ at _ read _ old two))
 
 pub swap-requires : goal.swap-requires
 swap-requires c =
     let read = c.prefix_at-prefix.ensures in
-    let take = to_take ipv4 _ _ _ c.requires.accepted.1 _ (place (goal.at.swap-requires c).After-slot-at) _ read (λ z. omega (arith, z, c.if-action-eq2.false)) in
+    let take = to_take ipv4 _ _ _ c.requires.accepted.1 _ (place (goal.at.swap-requires c).After-slot-at) _ read (λ z. omega (arith, z, c.if-was_deleted.false)) in
     record {
       fit = c.requires.fit;
       to_take = (c.requires.accepted.0, take);
@@ -90,5 +90,5 @@ returns c =
     let at = place (goal.at.returns c).After-slot-at in
     let read = c.prefix_at-prefix.ensures in
     let old = c.payload_at-payload.ensures in
-    λ s a. change_undone ipv4 _ _ s a _ at _ read _ old _ (λ z. omega (arith, z, c.if-action-eq1.false)) (λ z. omega (arith, z, c.if-action-eq2.false))
-    (c.swap.ensures s (to_take ipv4 _ _ s a _ at _ read (λ z. omega (arith, z, c.if-action-eq2.false))))
+    λ s a. change_undone ipv4 _ _ s a _ at _ read _ old _ (λ z. omega (arith, z, c.if-was_added.false)) (λ z. omega (arith, z, c.if-was_deleted.false))
+    (c.swap.ensures s (to_take ipv4 _ _ s a _ at _ read (λ z. omega (arith, z, c.if-was_deleted.false))))
