@@ -5,6 +5,7 @@ use mathlib.Core.Bool.{true, false, cond}
 use mathlib.Core.List.{List, [], ◌∷◌}
 use mathlib.Core.Option.{Option, some}
 use native.Mathlib.Omega.{arith}
+use Rattle.std.specs.Prelude.{Some, Ok}
 use borrow.Author.Tests.{eqb-false}
 use lib.Dec.{eqb}
 use lib.ListN.{length}
@@ -20,9 +21,7 @@ use Rattle.pool.specs.Layout.{Layout, trial_in, standing_in, held_payload}
 use Rattle.pool.specs.declared.link.Place.{Place}
 use Rattle.pool.specs.Means.{Means, TrialThere, routes_used}
 use Rattle.pool.proofs.Local.{recorded_length}
-use Rattle.search.specs.Find.{Finds, Spotted}
-use Rattle.search.specs.declared.exact.Spot.{Spot}
-use Rattle.search.specs.declared.exact.Spot.TheVariants as spot
+use Rattle.search.specs.Find.{Spot, Spotted, Finds}
 use Rattle.search.proofs.Spots.{means_spotted}
 use Rattle.edit.specs.Encodes.{Encodes, ToPut, ToTake}
 use Rattle.edit.proofs.Encodes.{means_encodes, encodes_means}
@@ -61,10 +60,10 @@ module _ {P : Type 0} (L : Layout P) where
       → (places : List ℕ) × Spotted L ws places x (some r)
   found_there c ws p x f s m ci r is = (routes_used m.tree, subst (Spotted L ws (routes_used m.tree) x) is (means_spotted L c ws p x f s m ci))
 
-  pub payload_there : (c : ℕ) (ws : List ℕ) (p : Prefix) (i : Place) → Finds L c ws p (spot.At i) → (s : State P) → Means L ws s → s.capacity ≡ c → (r : Route P)
+  pub payload_there : (c : ℕ) (ws : List ℕ) (p : Prefix) (i : Place) → Finds L c ws p (Ok (Some i)) → (s : State P) → Means L ws s → s.capacity ≡ c → (r : Route P)
       → find p s.routes ≡ some r
       → held_payload L ws i.0 ≡ r.payload
-  payload_there c ws p i f s m ci r is = ap (λ (x : Route P). x.payload) (found_there c ws p (spot.At i) f s m ci r is).1.1
+  payload_there c ws p i f s m ci r is = ap (λ (x : Route P). x.payload) (found_there c ws p (Ok (Some i)) f s m ci r is).1.1
 
   -- ---- a change recorded
 

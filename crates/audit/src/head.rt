@@ -11,17 +11,17 @@ pub fn head_is_good(pool: &[u32], capacity: usize) -> bool
     if capacity == 0 {
         return false;
     }
-    if pool::wide(pool::LIMIT) < capacity {
+    if (pool::LIMIT as usize) < capacity {
         return false;
     }
-    if pool::wide(pool[pool::AT_CAPACITY]) != capacity {
+    if pool[pool::AT_CAPACITY] as usize != capacity {
         return false;
     }
     let trial = pool[pool::AT_TRIAL];
     if 1 < trial {
         return false;
     }
-    let standing = pool::wide(pool[pool::AT_STANDING]);
+    let standing = pool[pool::AT_STANDING] as usize;
     if pool::CHANGES < standing {
         return false;
     }

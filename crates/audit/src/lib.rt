@@ -18,7 +18,7 @@ ghost use Rattle.pool.specs.Means.{Means};
 ghost use Rattle.pool.specs.Fit.{Fit};
 
 use places::Sort;
-use shape::RootAudit;
+use shape::Uses;
 
 // Whether the words are a sound pool of this capacity.
 pub fn audit(pool: &[u32], capacity: usize) -> bool
@@ -28,10 +28,10 @@ pub fn audit(pool: &[u32], capacity: usize) -> bool
     if !head::head_is_good(pool, capacity) {
         return false;
     }
-    let RootAudit::Fine { routes, inners } = shape::audit_root(pool, capacity) else {
+    let Some(Uses { routes, inners }) = shape::audit_root(pool, capacity) else {
         return false;
     };
-    if pool::wide(pool[pool::AT_COUNT]) != routes {
+    if pool[pool::AT_COUNT] as usize != routes {
         return false;
     }
     if places::used(pool, capacity, Sort::Route) != routes {
@@ -40,7 +40,7 @@ pub fn audit(pool: &[u32], capacity: usize) -> bool
     if places::used(pool, capacity, Sort::Inner) != inners {
         return false;
     }
-    let standing = pool::wide(pool[pool::AT_STANDING]);
+    let standing = pool[pool::AT_STANDING] as usize;
     if !standing::changes_are_good(pool, capacity, standing) {
         return false;
     }

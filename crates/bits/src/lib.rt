@@ -30,34 +30,22 @@ pub fn is_clear(address: u32, length: u32) -> bool
     requires { length ≤ 32 }
     ensures { result ≡ clear 32 length address }
 {
-    32 <= length + u32::trailing_zeros(address)
+    32 <= length + address.trailing_zeros()
 }
 
 // Bits that the two share are zeros of the xor, so its leading zeros end where they part.
 pub fn parting(x: u32, y: u32) -> u32
     ensures { Part 32 x y result }
 {
-    u32::leading_zeros(x ^ y)
+    (x ^ y).leading_zeros()
 }
 
-// What an old-format mask says.
-#[derive(Clone, Copy)]
-pub enum MaskAnswer {
-    // So many ones, and zeros after them.
-    Length(u32),
-    // A 0 with a 1 after it.
-    Holed,
-}
-
-// Where ones and trailing zeros fill the 32 bits, no 0 is left that has a 1 after it.
-pub fn mask_length(mask: u32) -> MaskAnswer
+// The length of an old-format mask, or none where it has a hole. Where ones and trailing zeros fill the 32 bits, no 0 is left that has
+// a 1 after it.
+pub fn mask_length(mask: u32) -> Option<u32>
     ensures { result ≡ mask_answer mask }
 {
-    let ones = u32::count_ones(mask);
-    let is_good = ones + u32::trailing_zeros(mask) == 32;
-    if is_good {
-        MaskAnswer::Length(ones)
-    } else {
-        MaskAnswer::Holed
-    }
+    let ones = mask.count_ones();
+    let is_good = ones + mask.trailing_zeros() == 32;
+    if is_good { Some(ones) } else { None }
 }

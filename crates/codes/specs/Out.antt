@@ -1,7 +1,9 @@
 -- What a call with an out-parameter owes.
-use Rattle.std.specs.Prelude.{ℕ, ◌≡◌, List, [], ◌∷◌}
+use Rattle.std.specs.Prelude.{ℕ, ◌≡◌, List, [], ◌∷◌, Result, Ok, Err}
 use Rattle.model.specs.Ipv4.{Payload}
 use Rattle.model.specs.Call.{Value, nothing, route, count}
+use Rattle.route.specs.declared.answer.Refusal.{Refusal}
+use Rattle.route.specs.Answers.{refusal_number}
 use Rattle.codes.specs.Codes.{route_words}
 
 -- The words of a value.
@@ -20,3 +22,8 @@ pub record Out (P : ℕ → Value Payload → Type 0) (n : ℕ) (before after : 
 -- This number and this value.
 abbrev pub Exactly : ℕ → Value Payload → ℕ → Value Payload → Type 0
 Exactly m w n v = (n ≡ m) × (v ≡ w)
+
+-- The number of an answer, whose words go out on 0; a refusal leaves the out-parameter as it was.
+abbrev pub Shows : Result (List ℕ) Refusal → ℕ → List ℕ → List ℕ → Type 0
+Shows (Ok words) n before after = (n ≡ 0) × (after ≡ words)
+Shows (Err x) n before after = (n ≡ refusal_number x) × (after ≡ before)

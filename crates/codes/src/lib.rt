@@ -3,11 +3,10 @@
 
 ghost use Rattle.std.specs.Prelude.{◌≡◌, [], ◌∷◌};
 ghost use Rattle.route.specs.Means.{hop_of, origin_of, route_of};
-ghost use Rattle.route.specs.Answers.{found_number, found_value};
 ghost use Rattle.codes.specs.Codes.{hop_in, route_in, hop_words, origin_words, route_words};
-ghost use Rattle.codes.specs.Out.{Out, Exactly};
+ghost use Rattle.codes.specs.Out.{Shows};
 
-use route::{Found, Hop, Length, Origin, Payload, Port, Prefix, Route};
+use route::{Answer, Hop, Length, Origin, Payload, Port, Prefix, Route};
 
 // A port that there is not. A kind above 2 is no hop, and the table must say so at its place among the numbers: after 9 and 3.
 // So it goes down as a hop that no table takes, and the table answers 4 by itself.
@@ -98,19 +97,14 @@ fn origin_words(origin: Origin) -> OriginWords
 }
 
 // The seven words of a route.
-fn words_of(route: Route) -> [u32; 7]
+pub fn words_of(route: Route) -> [u32; 7]
     ensures { result ≡ route_words (route_of route) }
 {
-    let prefix = route.prefix;
-    let payload = route.payload;
-    let hop = payload.hop;
-    let origin = payload.origin;
-    let length = prefix.length;
-    let leads = hop_words(hop);
-    let from = origin_words(origin);
+    let leads = hop_words(route.payload.hop);
+    let from = origin_words(route.payload.origin);
     [
-        prefix.address,
-        length.0,
+        route.prefix.address,
+        route.prefix.length.0,
         leads.kind,
         leads.port,
         leads.gateway,
@@ -119,14 +113,29 @@ fn words_of(route: Route) -> [u32; 7]
     ]
 }
 
-// The number of an answer. Its route, if it has one, goes out.
-pub fn show(answer: Found, out: &mut [u32; 7]) -> u32
-    ensures { Out (Exactly (found_number answer) (found_value answer)) result out.old out.new }
+// A number as the one word that goes out.
+pub fn one_word(n: u32) -> [u32; 1]
+    ensures { result ≡ n ∷ [] }
 {
-    let Found::Route(route) = answer else {
-        return answer.number();
-    };
-    let words = words_of(route);
-    *out = words;
-    0
+    [n]
+}
+
+// A length as the one word that goes out.
+pub fn length_word(length: Length) -> [u32; 1]
+    ensures { result ≡ length.0 ∷ [] }
+{
+    one_word(length.0)
+}
+
+// The number of an answer. Its words, if it has any, go out.
+pub fn show<const N: usize>(answer: Answer<[u32; N]>, out: &mut [u32; N]) -> u32
+    ensures { Shows answer.entry result out.old out.new }
+{
+    match answer {
+        Ok(words) => {
+            *out = words;
+            0
+        }
+        Err(refusal) => refusal.number(),
+    }
 }

@@ -2,7 +2,7 @@ use numeral::Fault;
 use route::{Hand, Prefix, Route};
 
 // What a line asks for. A blank line and a comment ask for nothing.
-#[derive(Clone, Copy)]
+#[derive(Clone, Copy, PartialEq, Eq)]
 pub enum Command {
     Nothing,
     Fresh(u32),

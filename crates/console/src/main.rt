@@ -4,5 +4,5 @@
 
 fn main(rt: HostRuntime) {
     let mut words = [0u32; pool::MOST_WORDS + 16];
-    session::run(&mut rt.stdin(), &mut words, true);
+    session::run(&mut rt.stdin(), &mut rt.stdout(), &mut words, true);
 }

@@ -4,6 +4,7 @@ use mathlib.Core.Path.{◌≡◌, refl, sym, ap, subst, ◌∙◌}
 use mathlib.Core.List.{List, []}
 use mathlib.Core.Option.{none, some}
 use native.Mathlib.Omega.{arith}
+use Rattle.std.specs.Prelude.{Option, Some, None}
 use Rattle.bits.proofs.Part.{part_apart}
 use Rattle.model.specs.Prefix.{Prefix}
 use Rattle.model.specs.Routes.{Route, find, insert, remove, replace}
@@ -29,8 +30,7 @@ use Rattle.plan.specs.declared.plan.PutPlan.{PutPlan}
 use Rattle.plan.specs.declared.plan.PutPlan.TheVariants as put
 use Rattle.plan.specs.declared.plan.TakePlan.{TakePlan}
 use Rattle.plan.specs.declared.plan.TakePlan.TheVariants as taken
-use Rattle.plan.specs.declared.plan.HeldAt.{HeldAt}
-use Rattle.plan.specs.declared.plan.HeldAt.TheVariants as at
+use Rattle.plan.specs.declared.plan.Held.{Held}
 use Rattle.edit.proofs.Stands.{Stands, stands}
 use Rattle.edit.proofs.HangIn.{hang_encodes}
 use Rattle.edit.proofs.JoinIn.{join_encodes}
@@ -126,20 +126,21 @@ module _ {P : Type 0} (L : Layout P) (laid : Laid L) where
     pub count_some : 1 ≤ count_in ws
     count_some = omega (arith, g.encodes.count_there, length_remove p g.route s.routes g.there)
 
-    at_here : (plan : TakePlan) → TakeRight L c ws p plan → TakenAt L s.capacity ws p v.0 plan
+    at_here : (plan : Option TakePlan) → TakeRight L c ws p plan → TakenAt L s.capacity ws p v.0 plan
     at_here plan h = (subst (λ (x : ℕ). TakeRight L x ws p plan) (sym g.capacity_is) h).exact v.0 g.route v.1.held v.1.good v.2
 
-    pub link_done : (zs : List ℕ) (cell : ℕ) (i : Place) → TakeRight L c ws p (taken.Link cell i) → zs ≡ writes (link_writes L ws i.0 cell) ws
+    pub link_done : (zs : List ℕ) (cell : ℕ) (i : Place) → TakeRight L c ws p (Some (taken.Link cell i)) → zs ≡ writes (link_writes L ws i.0 cell) ws
         → Encodes L zs (with_trial s (remove p s.routes) s.trial)
     link_done zs cell i h e =
-        let x = at_here (taken.Link cell i) h in
+        let x = at_here (Some (taken.Link cell i)) h in
         subst (λ (y : List ℕ). Encodes L y (with_trial s (remove p s.routes) s.trial)) (sym (e ∙ ap (λ (n : ℕ). writes (link_writes L ws n cell) ws) (sym x.2)))
         (link_encodes L laid ws s g.encodes g.few v.0 v.1 cell p x.0 x.1 g.route g.there x.3)
 
-    pub leaf_done : (zs : List ℕ) (up link : ℕ) (j i : Place) → TakeRight L c ws p (taken.Leaf up j link i) → zs ≡ writes (drop_writes L ws c i.0 j.0 up link) ws
+    pub leaf_done : (zs : List ℕ) (up link : ℕ) (j i : Place) → TakeRight L c ws p (Some (taken.Leaf up j link i))
+        → zs ≡ writes (drop_writes L ws c i.0 j.0 up link) ws
         → Encodes L zs (with_trial s (remove p s.routes) s.trial)
     leaf_done zs up link j i h e =
-        let x = at_here (taken.Leaf up j link i) h in
+        let x = at_here (Some (taken.Leaf up j link i)) h in
         let a = sym g.capacity_is in
         let b = sym x.6 in
         let d = sym x.7 in
@@ -148,25 +149,26 @@ module _ {P : Type 0} (L : Layout P) (laid : Laid L) where
         subst (λ (y : List ℕ). Encodes L y (with_trial s (remove p s.routes) s.trial)) (sym (e ∙ (λ n. writes (drop_writes L ws (a n) (b n) (d n) (f n) (k n)) ws)))
         (drop_encodes L laid ws s g.encodes g.few v.0 v.1 p x.0 x.1 x.2 g.route x.3 x.4 x.5 g.there)
 
-    pub last_done : (zs : List ℕ) (i : Place) → TakeRight L c ws p (taken.Last i) → zs ≡ writes (last_writes L ws i.0) ws → Encodes L zs (with_trial s (remove p s.routes) s.trial)
+    pub last_done : (zs : List ℕ) (i : Place) → TakeRight L c ws p (Some (taken.Last i)) → zs ≡ writes (last_writes L ws i.0) ws
+        → Encodes L zs (with_trial s (remove p s.routes) s.trial)
     last_done zs i h e =
-        let x = at_here (taken.Last i) h in
+        let x = at_here (Some (taken.Last i)) h in
         subst (λ (y : List ℕ). Encodes L y (with_trial s (remove p s.routes) s.trial)) (sym (e ∙ ap (λ (n : ℕ). writes (last_writes L ws n) ws) (sym x.3)))
         (last_encodes L laid ws s g.encodes g.few x.0 p g.route x.2 (subst (Stands L laid ws s) (sym x.1) v.1) g.there)
 
-    pub nowhere_not : TakeRight L c ws p taken.Nowhere → ⊥
-    nowhere_not h = at_here taken.Nowhere h
+    pub nowhere_not : TakeRight L c ws p None → ⊥
+    nowhere_not h = at_here None h
 
-    held_here : (plan : HeldAt) → HeldRight L c ws p plan → HeldThere L s.capacity p v.0 plan
+    held_here : (plan : Option Held) → HeldRight L c ws p plan → HeldThere L s.capacity p v.0 plan
     held_here plan h = (subst (λ (x : ℕ). HeldRight L x ws p plan) (sym g.capacity_is) h).exact v.0 g.route v.1.held v.1.good v.2
 
-    pub swap_done : (zs : List ℕ) (o : P) (cell : ℕ) (i : Place) → HeldRight L c ws p (at.At cell i) → zs ≡ writes (swap_writes L i.0 o) ws
+    pub swap_done : (zs : List ℕ) (o : P) (at : Held) → HeldRight L c ws p (Some at) → zs ≡ writes (swap_writes L at.place.0 o) ws
         → Encodes L zs (with_trial s (replace (record { prefix = p; payload = o }) s.routes) s.trial)
-    swap_done zs o cell i h e =
-        let x = held_here (at.At cell i) h in
+    swap_done zs o at h e =
+        let x = held_here (Some at) h in
         subst (λ (y : List ℕ). Encodes L y (with_trial s (replace (record { prefix = p; payload = o }) s.routes) s.trial))
         (sym (e ∙ ap (λ (n : ℕ). writes (swap_writes L n o) ws) (sym x.2)))
-        (swap_encodes L laid ws s g.encodes g.few v.0 v.1 cell p x.0 x.1 o g.route g.there)
+        (swap_encodes L laid ws s g.encodes g.few v.0 v.1 at.cell p x.0 x.1 o g.route g.there)
 
-    pub held_not : HeldRight L c ws p at.Nowhere → ⊥
-    held_not h = held_here at.Nowhere h
+    pub held_not : HeldRight L c ws p None → ⊥
+    held_not h = held_here None h

@@ -10,7 +10,7 @@ ghost use Rattle.edit.specs.Encodes.{Encodes, ToPut, ToTake};
 use enter_rows::{put_first, put_hung, put_joined};
 use leave_rows::{swap_payload, take_last, take_leaf, take_link};
 use places::{Sort, free};
-use plan::{HeldAt, PutPlan, TakePlan, held_at, plan_put, plan_take};
+use plan::{PutPlan, TakePlan, held_at, plan_put, plan_take};
 use route::{Prefix, Route};
 
 // A route more, where its prefix is not there and there is room.
@@ -42,16 +42,16 @@ pub fn take_out(pool: &mut [u32], capacity: usize, prefix: Prefix)
     ensures { (s : State Payload) → ToTake ipv4 capacity pool.old (prefix_of prefix) s → Encodes ipv4 pool.new (with_trial s (remove (prefix_of prefix) s.routes) s.trial) }
 {
     match plan_take(pool, capacity, prefix) {
-        TakePlan::Link(cell, place) => {
+        Some(TakePlan::Link(cell, place)) => {
             take_link(pool, cell, place);
         }
-        TakePlan::Leaf(up, inner, link, place) => {
+        Some(TakePlan::Leaf(up, inner, link, place)) => {
             take_leaf(pool, capacity, up, inner, link, place);
         }
-        TakePlan::Last(place) => {
+        Some(TakePlan::Last(place)) => {
             take_last(pool, place);
         }
-        TakePlan::Nowhere => {}
+        None => {}
     }
 }
 
@@ -63,10 +63,7 @@ pub fn swap(pool: &mut [u32], capacity: usize, route: Route)
 {
     let prefix = route.prefix;
     let payload = route.payload;
-    match held_at(pool, capacity, prefix) {
-        HeldAt::At(_, place) => {
-            swap_payload(pool, place, payload);
-        }
-        HeldAt::Nowhere => {}
+    if let Some(held) = held_at(pool, capacity, prefix) {
+        swap_payload(pool, held.place, payload);
     }
 }

@@ -1,7 +1,8 @@
 -- What the numbers of the C interface are, of the answers of the calls below it.
 use Prim.Native.Nat.{ℕ, ◌≤◌, ◌<◌}
-use mathlib.Core.Path.{◌≡◌, subst}
-use mathlib.Core.Bool.{false}
+use mathlib.Core.Path.{◌≡◌, refl, sym, subst}
+use mathlib.Core.Bool.{Bool, true, false, true≢false}
+use mathlib.Core.Logic.{◌↔◌, inl, inr}
 use mathlib.Core.List.{List}
 use native.Mathlib.Omega.{arith}
 use borrow.Author.Tests.{eq-eqb, ne_eqb, lt-ltb, le-ltb}
@@ -11,7 +12,9 @@ use Rattle.pool.specs.Layout.{size}
 use Rattle.pool.specs.Ipv4.{ipv4}
 use Rattle.promise.specs.Promise.{Promise, FreshPromise}
 use Rattle.promise.specs.Table.{Table}
+use Rattle.std.specs.Int.{from_bool}
 use Rattle.codes.specs.Codes.{words_for}
+use Rattle.exports.specs.Owed.{YesNo}
 
 -- ---- how many words
 
@@ -34,3 +37,9 @@ module _ {P : Type 0} (T : Table P) where
 
   pub as_fresh : {c : ℕ} {ws zs : List ℕ} {n m : ℕ} → n ≡ m → FreshPromise T c ws zs m → FreshPromise T c ws zs n
   as_fresh f p = rw f p
+
+-- ---- yes and no in numbers
+
+pub yes_no : (b : Bool) {n : ℕ} {P : Type 0} → (b ≡ true) ↔ P → n ≡ from_bool b → YesNo n P
+yes_no true s e = inl (e, s.0 refl)
+yes_no false s e = inr (e, λ p. true≢false (sym (s.1 p)))

@@ -9,19 +9,15 @@ ghost use Rattle.codes.specs.Codes.{words_for};
 pub extern "C" fn rishavand_words(capacity: u32) -> usize
     ensures { result ≡ words_for capacity }
 {
-    if capacity == 0 {
-        return 0;
+    match capacity {
+        1..=pool::LIMIT => pool::size_of(capacity as usize),
+        _ => 0,
     }
-    if pool::LIMIT < capacity {
-        return 0;
-    }
-    pool::size_of(pool::wide(capacity))
 }
 
 #[unsafe(no_mangle)]
 pub extern "C" fn rishavand_fresh(pool: &mut [u32], capacity: u32) -> u32
     ensures { FreshPromise (tree ipv4) capacity pool.old pool.new result }
 {
-    let done = table::fresh(pool, capacity);
-    done.number()
+    route::number(table::fresh(pool, capacity))
 }

@@ -21,8 +21,7 @@ pub extern "C" fn rishavand_add(
     ensures { Promise (tree ipv4) (call.add (route_in address length kind port gateway fixed)) pool.old pool.new result call.nothing }
 {
     let route = route_from(address, length, kind, port, gateway, Origin::Fixed);
-    let done = table::add(pool, route);
-    done.number()
+    route::number(table::add(pool, route))
 }
 
 #[unsafe(no_mangle)]
@@ -37,8 +36,7 @@ pub extern "C" fn rishavand_change(
     ensures { Promise (tree ipv4) (call.change (route_in address length kind port gateway fixed)) pool.old pool.new result call.nothing }
 {
     let route = route_from(address, length, kind, port, gateway, Origin::Fixed);
-    let done = table::change_hop(pool, route);
-    done.number()
+    route::number(table::change_hop(pool, route))
 }
 
 #[unsafe(no_mangle)]
@@ -46,38 +44,33 @@ pub extern "C" fn rishavand_delete(pool: &mut [u32], address: u32, length: u32) 
     ensures { Promise (tree ipv4) (call.delete plain (prefix_in address length)) pool.old pool.new result call.nothing }
 {
     let prefix = Prefix::new(address, Length(length));
-    let done = table::delete(pool, Hand::Plain, prefix);
-    done.number()
+    route::number(table::delete(pool, Hand::Plain, prefix))
 }
 
 #[unsafe(no_mangle)]
 pub extern "C" fn rishavand_open(pool: &mut [u32]) -> u32
     ensures { Promise (tree ipv4) call.open_trial pool.old pool.new result call.nothing }
 {
-    let done = table::open_trial(pool);
-    done.number()
+    route::number(table::open_trial(pool))
 }
 
 #[unsafe(no_mangle)]
 pub extern "C" fn rishavand_keep(pool: &mut [u32]) -> u32
     ensures { Promise (tree ipv4) call.keep pool.old pool.new result call.nothing }
 {
-    let done = table::keep_trial(pool);
-    done.number()
+    route::number(table::keep_trial(pool))
 }
 
 #[unsafe(no_mangle)]
 pub extern "C" fn rishavand_back_out(pool: &mut [u32]) -> u32
     ensures { Promise (tree ipv4) call.back_out pool.old pool.new result call.nothing }
 {
-    let done = table::back_out(pool);
-    done.number()
+    route::number(table::back_out(pool))
 }
 
 #[unsafe(no_mangle)]
 pub extern "C" fn rishavand_step_back(pool: &mut [u32]) -> u32
     ensures { Promise (tree ipv4) call.step_back pool.old pool.new result call.nothing }
 {
-    let done = table::step_back(pool);
-    done.number()
+    route::number(table::step_back(pool))
 }

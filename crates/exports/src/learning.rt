@@ -24,8 +24,7 @@ pub extern "C" fn rishavand_learned_add(
 {
     let origin = Origin::Learned(Metric(metric));
     let route = route_from(address, length, kind, port, gateway, origin);
-    let done = table::add(pool, route);
-    done.number()
+    route::number(table::add(pool, route))
 }
 
 #[unsafe(no_mangle)]
@@ -42,8 +41,7 @@ pub extern "C" fn rishavand_learned_change(
 {
     let origin = Origin::Learned(Metric(metric));
     let route = route_from(address, length, kind, port, gateway, origin);
-    let done = table::change_hop(pool, route);
-    done.number()
+    route::number(table::change_hop(pool, route))
 }
 
 #[unsafe(no_mangle)]
@@ -51,6 +49,5 @@ pub extern "C" fn rishavand_learned_delete(pool: &mut [u32], address: u32, lengt
     ensures { Promise (tree ipv4) (call.delete learner (prefix_in address length)) pool.old pool.new result call.nothing }
 {
     let prefix = Prefix::new(address, Length(length));
-    let done = table::delete(pool, Hand::Learner, prefix);
-    done.number()
+    route::number(table::delete(pool, Hand::Learner, prefix))
 }

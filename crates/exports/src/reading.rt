@@ -9,31 +9,29 @@ ghost use Rattle.codes.specs.Codes.{prefix_in};
 ghost use Rattle.codes.specs.Out.{Out};
 ghost use Rattle.exports.specs.Owed.{YesNo, MaskPromise};
 
-use codes::show;
-use route::{Length, Measured, Prefix, Room};
+use codes::{length_word, one_word, show, words_of};
+use route::{Length, Prefix};
 
 // 1 for a sound pool, 0 for any other.
 #[unsafe(no_mangle)]
 pub extern "C" fn rishavand_sound(pool: &[u32]) -> u32
     ensures { YesNo result (Sound (tree ipv4) pool.now) }
 {
-    if table::sound(pool) { 1 } else { 0 }
+    u32::from(table::sound(pool))
 }
 
 #[unsafe(no_mangle)]
 pub extern "C" fn rishavand_lookup(pool: &[u32], destination: u32, route: &mut [u32; 7]) -> u32
     ensures { Out (LookupPromise (tree ipv4) destination pool.now) result route.old route.new }
 {
-    let answer = table::lookup(pool, destination);
-    show(answer, route)
+    show(table::lookup(pool, destination).map(words_of), route)
 }
 
 #[unsafe(no_mangle)]
 pub extern "C" fn rishavand_first(pool: &[u32], route: &mut [u32; 7]) -> u32
     ensures { Out (Promise (tree ipv4) call.first pool.now pool.now) result route.old route.new }
 {
-    let answer = table::first(pool);
-    show(answer, route)
+    show(table::first(pool).map(words_of), route)
 }
 
 #[unsafe(no_mangle)]
@@ -46,32 +44,21 @@ pub extern "C" fn rishavand_next(
     ensures { Out (Promise (tree ipv4) (call.after (prefix_in address length)) pool.now pool.now) result route.old route.new }
 {
     let prefix = Prefix::new(address, Length(length));
-    let answer = table::next(pool, prefix);
-    show(answer, route)
+    show(table::next(pool, prefix).map(words_of), route)
 }
 
 #[unsafe(no_mangle)]
 pub extern "C" fn rishavand_room(pool: &[u32], room: &mut [u32; 1]) -> u32
     ensures { Out (Promise (tree ipv4) call.room pool.now pool.now) result room.old room.new }
 {
-    let answer = table::room_left(pool);
-    let Room::Left(left) = answer else {
-        return answer.number();
-    };
-    *room = [left];
-    0
+    show(table::room_left(pool).map(one_word), room)
 }
 
 #[unsafe(no_mangle)]
 pub extern "C" fn rishavand_mask_length(mask: u32, length: &mut [u32; 1]) -> u32
     ensures { Out (MaskPromise (tree ipv4) mask) result length.old length.new }
 {
-    let answer = table::mask_length(mask);
-    let Measured::Length(ones) = answer else {
-        return answer.number();
-    };
-    *length = [ones.0];
-    0
+    show(table::mask_length(mask).map(length_word), length)
 }
 
 // The length to pass with a mask: where the mask has a hole, one that no call takes, so that each answers 3 at its place.
@@ -79,6 +66,5 @@ pub extern "C" fn rishavand_mask_length(mask: u32, length: &mut [u32; 1]) -> u32
 pub extern "C" fn rishavand_masked(mask: u32) -> u32
     ensures { result ≡ masked_length 32 mask }
 {
-    let length = Length::of_mask(mask);
-    length.0
+    Length::of_mask(mask).0
 }

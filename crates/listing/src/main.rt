@@ -3,6 +3,7 @@
 
 fn main(rt: HostRuntime) {
     let mut words = [0u32; pool::MOST_WORDS + 16];
-    session::run(&mut rt.stdin(), &mut words, false);
-    let _ = reply::list(&words);
+    let mut out = rt.stdout();
+    session::run(&mut rt.stdin(), &mut out, &mut words, false);
+    let _ = reply::list(&mut out, &words);
 }

@@ -1,5 +1,5 @@
 -- Whether a call may go on: the tests of document 01's table of numbers, in its order.
-use Rattle.std.specs.Prelude.{ℕ, ◌≡◌, Bool, List}
+use Rattle.std.specs.Prelude.{ℕ, ◌≡◌, Bool, List, Result, Ok, Err}
 use Rattle.std.proofs.Math.Option.{some}
 use Rattle.model.specs.Prefix.{Prefix}
 use Rattle.model.specs.Routes.{find}
@@ -10,8 +10,7 @@ use Rattle.pool.specs.Means.{Means}
 use Rattle.route.specs.Answers.{refusal_number}
 use Rattle.promise.specs.Promise.{Meant}
 use Rattle.promise.specs.Table.{Table}
-use Rattle.may.specs.declared.May.{May}
-use Rattle.may.specs.declared.May.TheVariants.{Go, No}
+use Rattle.route.specs.declared.answer.Refusal.{Refusal}
 
 module _ {P : Type 0} (T : Table P) where
   -- A test of a sound pool tells what it is said to tell of the state.
@@ -19,9 +18,9 @@ module _ {P : Type 0} (T : Table P) where
   Tells ws f r = (s : State P) → T.Means ws s → r ≡ f s
 
   -- The call goes on where its number is 0, and is refused with its number where that is another.
-  abbrev pub MayRight : Call P → List ℕ → May → Type 0
-  MayRight call ws (Go c) = (s : State P) × T.Means ws s × (s.capacity ≡ c) × (number T.rules call (some s) ≡ 0)
-  MayRight call ws (No x) = ((m : Meaning P) → Meant T ws m → number T.rules call m ≡ refusal_number x) × (refusal_number x ≡ 0 → ⊥)
+  abbrev pub MayRight : Call P → List ℕ → Result ℕ Refusal → Type 0
+  MayRight call ws (Ok c) = (s : State P) × T.Means ws s × (s.capacity ≡ c) × (number T.rules call (some s) ≡ 0)
+  MayRight call ws (Err x) = ((m : Meaning P) → Meant T ws m → number T.rules call m ≡ refusal_number x) × (refusal_number x ≡ 0 → ⊥)
 
 -- A test of the pool's own words tells whether the route of prefix p is guarded from that hand.
 abbrev pub TellsGuarded : {P : Type 0} (L : Layout P) → ℕ → List ℕ → Hand → Prefix → Bool → Type 0

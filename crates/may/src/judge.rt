@@ -1,4 +1,4 @@
-ghost use Rattle.std.specs.Prelude.{◌<◌, length, eqb};
+ghost use Rattle.std.specs.Prelude.{◌<◌, length, eqb, Ok};
 ghost use Rattle.model.specs.Routes.{holds, find};
 ghost use Rattle.model.specs.State as state;
 ghost use Rattle.model.specs.Call as call;
@@ -7,20 +7,17 @@ ghost use Rattle.pool.specs.Ipv4.{ipv4};
 ghost use Rattle.pool.specs.Fit.{Fit};
 ghost use Rattle.promise.specs.Trees.{tree};
 ghost use Rattle.verdict.specs.Own.{TestedRight};
-ghost use Rattle.verdict.specs.declared.Verdict.TheVariants as verdict;
 ghost use Rattle.may.specs.May.{MayRight, Tells, TellsGuarded};
 
-use super::May;
-use route::{Hand, Prefix, Refusal, Route};
-use search::Spot;
+use route::{Answer, Hand, Prefix, Refusal, Route};
 
 // Whether a prefix is held.
 fn holds(pool: &[u32], capacity: usize, prefix: Prefix) -> bool
-    requires { TestedRight (tree ipv4) pool.now (verdict.Sound capacity) }
+    requires { TestedRight (tree ipv4) pool.now (Ok capacity) }
     ensures { Tells (tree ipv4) pool.now (λ s. holds (prefix_of prefix) s.routes) result }
 {
     let own = pool::size_of(capacity);
-    search::find(&pool[..own], capacity, prefix).is_at()
+    matches!(search::find(&pool[..own], capacity, prefix), Ok(Some(_)))
 }
 
 // Whether the route of this prefix, if it is held, is guarded from that hand, in the pool's own words.
@@ -29,19 +26,17 @@ fn guarded_in(own: &[u32], capacity: usize, by: Hand, prefix: Prefix) -> bool
     ensures { TellsGuarded ipv4 capacity own.now (hand_is by) (prefix_of prefix) result }
 {
     match search::find(own, capacity, prefix) {
-        Spot::At(place) => {
+        Ok(Some(place)) => {
             let payload = pool::payload_at(own, pool::seat(place));
-            let origin = payload.origin;
-            origin.hand().guards(by)
+            payload.origin.hand().guards(by)
         }
-        Spot::Absent => false,
-        Spot::Damaged => false,
+        _ => false,
     }
 }
 
 // The same in a lent pool.
 fn guarded(pool: &[u32], capacity: usize, by: Hand, prefix: Prefix) -> bool
-    requires { TestedRight (tree ipv4) pool.now (verdict.Sound capacity) }
+    requires { TestedRight (tree ipv4) pool.now (Ok capacity) }
     ensures { Tells (tree ipv4) pool.now (λ s. call.guarded ipv4.rules (hand_is by) (find (prefix_of prefix) s.routes)) result }
 {
     let own = pool::size_of(capacity);
@@ -61,7 +56,7 @@ fn trial_full(pool: &[u32]) -> bool
     requires { 4 < length pool.now }
     ensures { Tells (tree ipv4) pool.now (call.trial_full ipv4.rules) result }
 {
-    pool::wide(pool[pool::AT_STANDING]) == pool::CHANGES
+    pool[pool::AT_STANDING] as usize == pool::CHANGES
 }
 
 // Whether no change stands.
@@ -81,121 +76,119 @@ fn table_full(pool: &[u32]) -> bool
 }
 
 // 3, 4, 16, 5, 8, 7.
-pub fn judge_add(pool: &[u32], capacity: usize, route: Route) -> May
-    requires { TestedRight (tree ipv4) pool.now (verdict.Sound capacity) }
+pub fn judge_add(pool: &[u32], capacity: usize, route: Route) -> Answer<usize>
+    requires { TestedRight (tree ipv4) pool.now (Ok capacity) }
     ensures { MayRight (tree ipv4) (call.add (route_of route)) pool.now result }
 {
     let prefix = route.prefix;
-    let payload = route.payload;
-    let hop = payload.hop;
-    let origin = payload.origin;
+    let hop = route.payload.hop;
+    let origin = route.payload.origin;
     if !prefix.well_formed() {
-        return May::No(Refusal::BadPrefix);
+        return Err(Refusal::BadPrefix);
     }
     if !prefix.may_be_held() {
-        return May::No(Refusal::BadPrefix);
+        return Err(Refusal::BadPrefix);
     }
     if !hop.is_good() {
-        return May::No(Refusal::BadHop);
+        return Err(Refusal::BadHop);
     }
     if !origin.is_good() {
-        return May::No(Refusal::BadMetric);
+        return Err(Refusal::BadMetric);
     }
     if holds(pool, capacity, prefix) {
-        return May::No(Refusal::AlreadyThere);
+        return Err(Refusal::AlreadyThere);
     }
     if trial_full(pool) {
-        return May::No(Refusal::TrialFull);
+        return Err(Refusal::TrialFull);
     }
     if table_full(pool) {
-        return May::No(Refusal::TableFull);
+        return Err(Refusal::TableFull);
     }
-    May::Go(capacity)
+    Ok(capacity)
 }
 
 // 3, 6, 15, 8.
-pub fn judge_delete(pool: &[u32], capacity: usize, by: Hand, prefix: Prefix) -> May
-    requires { TestedRight (tree ipv4) pool.now (verdict.Sound capacity) }
+pub fn judge_delete(pool: &[u32], capacity: usize, by: Hand, prefix: Prefix) -> Answer<usize>
+    requires { TestedRight (tree ipv4) pool.now (Ok capacity) }
     ensures { MayRight (tree ipv4) (call.delete (hand_is by) (prefix_of prefix)) pool.now result }
 {
     if !prefix.well_formed() {
-        return May::No(Refusal::BadPrefix);
+        return Err(Refusal::BadPrefix);
     }
     if !holds(pool, capacity, prefix) {
-        return May::No(Refusal::NotThere);
+        return Err(Refusal::NotThere);
     }
     if guarded(pool, capacity, by, prefix) {
-        return May::No(Refusal::RouteIsFixed);
+        return Err(Refusal::RouteIsFixed);
     }
     if trial_full(pool) {
-        return May::No(Refusal::TrialFull);
+        return Err(Refusal::TrialFull);
     }
-    May::Go(capacity)
+    Ok(capacity)
 }
 
 // 3, 4, 16, 6, 15, 8.
-pub fn judge_change(pool: &[u32], capacity: usize, route: Route) -> May
-    requires { TestedRight (tree ipv4) pool.now (verdict.Sound capacity) }
+pub fn judge_change(pool: &[u32], capacity: usize, route: Route) -> Answer<usize>
+    requires { TestedRight (tree ipv4) pool.now (Ok capacity) }
     ensures { MayRight (tree ipv4) (call.change (route_of route)) pool.now result }
 {
     let prefix = route.prefix;
-    let payload = route.payload;
-    let hop = payload.hop;
-    let origin = payload.origin;
+    let hop = route.payload.hop;
+    let origin = route.payload.origin;
     if !prefix.well_formed() {
-        return May::No(Refusal::BadPrefix);
+        return Err(Refusal::BadPrefix);
     }
     if !hop.is_good() {
-        return May::No(Refusal::BadHop);
+        return Err(Refusal::BadHop);
     }
     if !origin.is_good() {
-        return May::No(Refusal::BadMetric);
+        return Err(Refusal::BadMetric);
     }
     if !holds(pool, capacity, prefix) {
-        return May::No(Refusal::NotThere);
+        return Err(Refusal::NotThere);
     }
     if guarded(pool, capacity, origin.hand(), prefix) {
-        return May::No(Refusal::RouteIsFixed);
+        return Err(Refusal::RouteIsFixed);
     }
     if trial_full(pool) {
-        return May::No(Refusal::TrialFull);
+        return Err(Refusal::TrialFull);
     }
-    May::Go(capacity)
+    Ok(capacity)
 }
 
 // 10.
-pub fn judge_open(pool: &[u32], capacity: usize) -> May
-    requires { TestedRight (tree ipv4) pool.now (verdict.Sound capacity) }
+pub fn judge_open(pool: &[u32], capacity: usize) -> Answer<usize>
+    requires { TestedRight (tree ipv4) pool.now (Ok capacity) }
     ensures { MayRight (tree ipv4) call.open_trial pool.now result }
 {
     if trial_open(pool) {
-        return May::No(Refusal::TrialIsOpen);
+        return Err(Refusal::TrialIsOpen);
     }
-    May::Go(capacity)
+    Ok(capacity)
 }
 
 // 11: to keep a trial and to back out of it.
-pub fn judge_end(pool: &[u32], capacity: usize) -> May
-    requires { TestedRight (tree ipv4) pool.now (verdict.Sound capacity) }
+pub fn judge_end(pool: &[u32], capacity: usize) -> Answer<usize>
+    requires { TestedRight (tree ipv4) pool.now (Ok capacity) }
     ensures may_keep { MayRight (tree ipv4) call.keep pool.now result }
     ensures may_back_out { MayRight (tree ipv4) call.back_out pool.now result }
 {
     if !trial_open(pool) {
-        return May::No(Refusal::NoTrial);
+        return Err(Refusal::NoTrial);
     }
-    May::Go(capacity)
+    Ok(capacity)
 }
 
 // 11, 12.
-pub fn judge_step_back(pool: &[u32], capacity: usize) -> May
-    requires { TestedRight (tree ipv4) pool.now (verdict.Sound capacity) }
+pub fn judge_step_back(pool: &[u32], capacity: usize) -> Answer<usize>
+    requires { TestedRight (tree ipv4) pool.now (Ok capacity) }
     ensures { MayRight (tree ipv4) call.step_back pool.now result }
 {
     if !trial_open(pool) {
-        return May::No(Refusal::NoTrial);
+        return Err(Refusal::NoTrial);
     }
     if none_stands(pool) {
-        return May::No(Refusal::NothingStanding);
+        return Err(Refusal::NothingStanding);
     }
-    May::Go(capacity)
+    Ok(capacity)
 }

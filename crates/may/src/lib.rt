@@ -5,11 +5,3 @@
 mod judge;
 
 pub use judge::{judge_add, judge_change, judge_delete, judge_end, judge_open, judge_step_back};
-use route::Refusal;
-
-// Whether a call goes on, in a sound pool of this capacity, or why it does not.
-#[derive(Clone, Copy)]
-pub enum May {
-    Go(usize),
-    No(Refusal),
-}

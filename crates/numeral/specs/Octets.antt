@@ -1,9 +1,7 @@
 -- What it is to read an address.
-use Rattle.std.specs.Prelude.{ℕ, suc, ◌+◌, ◌*◌, ◌≤◌, ◌<◌, ◌≡◌, List, ◌∷◌, ◌++◌, length, take, drop}
+use Rattle.std.specs.Prelude.{ℕ, suc, ◌+◌, ◌*◌, ◌≤◌, ◌<◌, ◌≡◌, List, ◌∷◌, ◌++◌, Option, Some, None, length, take, drop}
 use Rattle.numeral.specs.Decimal.{Spells}
 use Rattle.numeral.specs.Words.{index_of}
-use Rattle.numeral.specs.declared.number.Number as number
-use Rattle.numeral.specs.declared.number.Octets as octets
 
 -- An octet: digits that spell a number up to 255.
 abbrev pub Octet : List ℕ → ℕ → Type 0
@@ -15,9 +13,9 @@ pub data Dotted : ℕ → ℕ → List ℕ → ℕ → Type 0 where
   more : {k before n whole : ℕ} {s rest : List ℕ} → Octet s n → Dotted k (before * 256 + n) rest whole → Dotted (suc k) before (s ++ (46 ∷ rest)) whole
 
 -- An address that was read is the one that four octets say; where none was read the bytes say none.
-abbrev pub ReadAddress : List ℕ → number.Number → Type 0
-ReadAddress s (number.Number.Value n) = Dotted 3 0 s n
-ReadAddress s number.Number.Bad = (n : ℕ) → Dotted 3 0 s n → ⊥
+abbrev pub ReadAddress : List ℕ → Option ℕ → Type 0
+ReadAddress s (Some n) = Dotted 3 0 s n
+ReadAddress s None = (n : ℕ) → Dotted 3 0 s n → ⊥
 
 -- Where the first dot from a place on stands, or the end.
 abbrev pub dot_from : List ℕ → ℕ → ℕ
@@ -28,11 +26,11 @@ abbrev pub up_to_dot : List ℕ → ℕ → List ℕ
 up_to_dot s from = take (index_of 46 (drop from s)) (drop from s)
 
 -- An octet stands there, with its number behind the number before; or none does.
-abbrev pub OctetAt : List ℕ → ℕ → ℕ → octets.Octets → Type 0
-OctetAt s from before (octets.Octets.Value v end) = ((n : ℕ) × Octet (up_to_dot s from) n × (v ≡ before * 256 + n)) × (end ≡ dot_from s from)
-OctetAt s from before octets.Octets.Bad = (n : ℕ) → Octet (up_to_dot s from) n → ⊥
+abbrev pub OctetAt : List ℕ → ℕ → ℕ → Option (ℕ × ℕ) → Type 0
+OctetAt s from before (Some (v, end)) = ((n : ℕ) × Octet (up_to_dot s from) n × (v ≡ before * 256 + n)) × (end ≡ dot_from s from)
+OctetAt s from before None = (n : ℕ) → Octet (up_to_dot s from) n → ⊥
 
 -- The same behind the dot that must stand at a place.
-abbrev pub NextAt : List ℕ → ℕ → ℕ → octets.Octets → Type 0
-NextAt s dot before (octets.Octets.Value v end) = (dot < length s) × OctetAt s (dot + 1) before (octets.Octets.Value v end)
-NextAt s dot before octets.Octets.Bad = dot < length s → OctetAt s (dot + 1) before octets.Octets.Bad
+abbrev pub NextAt : List ℕ → ℕ → ℕ → Option (ℕ × ℕ) → Type 0
+NextAt s dot before (Some (v, end)) = (dot < length s) × OctetAt s (dot + 1) before (Some (v, end))
+NextAt s dot before None = dot < length s → OctetAt s (dot + 1) before None

@@ -1,8 +1,7 @@
 -- The words of a line: what stands between blanks.
-use Rattle.std.specs.Prelude.{ℕ, zero, suc, ◌≤◌, ◌<◌, ◌≡◌, Bool, true, false, cond, ◌||◌, List, [], ◌∷◌, ◌⊎◌, eqb, length, take, drop}
+use Rattle.std.specs.Prelude.{ℕ, suc, ◌≤◌, ◌<◌, ◌≡◌, ◌⊎◌, Bool, true, false, cond, ◌||◌, eqb, List, [], ◌∷◌, length, take, drop}
+use Rattle.std.specs.Prelude.{Option, Some, None, Result, Ok, Err}
 use Rattle.std.specs.Bool.{beq}
-use Rattle.numeral.specs.declared.number.Number as number
-use Rattle.numeral.specs.declared.number.Taken as taken
 use Rattle.numeral.specs.declared.wrong.Fault as fault
 
 -- How many elements stand before the first that equals b, or how many there are where none does.
@@ -39,14 +38,9 @@ Behind line from place = (place ≤ length line) × (drop place line ≡ drop (l
 abbrev pub uncommented_of : List ℕ → List ℕ
 uncommented_of line = take (index_of 35 line) line
 
--- What a word of so many bytes gives, by what was read of it.
-abbrev pub given_of : ℕ → number.Number → fault.Fault → ℕ → taken.Taken
-given_of zero read bad end = taken.Taken.Wrong fault.Fault.TooFewWords
-given_of (suc k) (number.Number.Value n) bad end = taken.Taken.Value n end
-given_of (suc k) number.Number.Bad bad end = taken.Taken.Wrong bad
-
--- The next word was read, and the place is behind it; or there is no word; or there is one that says nothing of the kind.
-abbrev pub TakenAs : (List ℕ → number.Number → Type 0) → fault.Fault → List ℕ → ℕ → taken.Taken → Type 0
-TakenAs Read bad line from (taken.Taken.Value n place) = Read (word_at line from) (number.Number.Value n) × Behind line from place
-TakenAs Read bad line from (taken.Taken.Wrong f) =
-    ((length (word_at line from) ≡ 0) × (f ≡ fault.Fault.TooFewWords)) ⊎ ((0 < length (word_at line from)) × Read (word_at line from) number.Number.Bad × (f ≡ bad))
+-- The next word was read, and the place is behind it. Else the place is the old one: there is no word, or it says nothing of the kind.
+abbrev pub TakenAs : (List ℕ → Option ℕ → Type 0) → fault.Fault → List ℕ → ℕ → Result ℕ fault.Fault → ℕ → Type 0
+TakenAs Read bad line from (Ok n) place = Read (word_at line from) (Some n) × Behind line from place
+TakenAs Read bad line from (Err f) place =
+    (place ≡ from) × (((length (word_at line from) ≡ 0) × (f ≡ fault.Fault.TooFewWords))
+    ⊎ ((0 < length (word_at line from)) × Read (word_at line from) None × (f ≡ bad)))

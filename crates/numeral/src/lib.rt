@@ -2,10 +2,10 @@
 // every range or out of it, so that the call they are meant for can refuse them.
 #![tactic(auto)]
 
+mod line;
 mod number;
-mod word;
 mod wrong;
 
-pub use number::{Number, Taken, address, decimal, take_address, take_number};
-pub use word::{after, find, uncommented, word_at};
+pub use line::{Line, find};
+pub use number::{address, decimal};
 pub use wrong::Fault;

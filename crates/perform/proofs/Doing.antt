@@ -1,23 +1,14 @@
 -- What a command does, as the code finds out which one it is.
 use Prim.Native.Nat.{ℕ}
-use mathlib.Core.Path.{◌≡◌, refl, sym, ap, subst}
+use mathlib.Core.Path.{◌≡◌, refl, sym, subst}
 use mathlib.Core.List.{List}
-use Rattle.model.specs.Ipv4 as ipv4
-use Rattle.model.specs.Call as call
-use Rattle.pool.specs.Ipv4.{ipv4 as words4}
-use Rattle.promise.specs.Promise.{Promise}
-use Rattle.promise.specs.Trees.{tree}
 use Rattle.command.specs.declared.asked.Command.{Command}
 use Rattle.perform.specs.declared.Changed.{Changed}
-use Rattle.perform.specs.Performs.{Calls, Performs}
+use Rattle.perform.specs.Performs.{Performs}
 
 -- once the command is known
 pub known : {k k' : Command} (ws zs : List ℕ) (r : Changed) → k ≡ k' → Performs k' ws zs r → Performs k ws zs r
 known ws zs r e d = subst (λ (x : Command). Performs x ws zs r) (sym e) d
-
--- the number of a call
-pub calls : {c : call.Call ipv4.Payload} {ws zs : List ℕ} {n m : ℕ} → n ≡ m → Promise (tree words4) c ws zs m call.nothing → Calls c ws zs (Changed.Number n)
-calls {m = m} e p = (m, ap Changed.Number e, p)
 
 -- a command that is none of those which change a word
 pub keeps : (ws : List ℕ) (k : Command)

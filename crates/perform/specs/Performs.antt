@@ -1,25 +1,27 @@
 -- What a command does to the words: one public call, one word poked inside the buffer, or nothing at all.
-use Rattle.std.specs.Prelude.{ℕ, ◌≤◌, ◌<◌, ◌≡◌, List, ◌⊎◌, length, set}
+use Rattle.std.specs.Prelude.{ℕ, ◌≤◌, ◌<◌, ◌≡◌, List, ◌⊎◌, length, set, Result, Ok}
 use Rattle.model.specs.Ipv4 as ipv4
 use Rattle.model.specs.Call as call
 use Rattle.route.specs.Means.{prefix_of, route_of, hand_is}
+use Rattle.route.specs.Answers.{answer_number}
+use Rattle.route.specs.declared.answer.Refusal.{Refusal}
 use Rattle.pool.specs.Ipv4.{ipv4 as words4}
 use Rattle.promise.specs.Promise.{Promise, FreshPromise}
 use Rattle.promise.specs.Trees.{tree}
 use Rattle.command.specs.declared.asked.Command.{Command}
 use Rattle.perform.specs.declared.Changed.{Changed}
 
--- The number is the one that the call's promise gives.
+-- The answer has the number that the call's promise gives.
 abbrev pub Calls : call.Call ipv4.Payload → List ℕ → List ℕ → Changed → Type 0
-Calls c ws zs r = (n : ℕ) × (r ≡ Changed.Number n) × Promise (tree words4) c ws zs n call.nothing
+Calls c ws zs r = (a : Result (Unit {0}) Refusal) × (r ≡ Changed.Answered a) × Promise (tree words4) c ws zs (answer_number a) call.nothing
 
 -- The same of a fresh table.
 abbrev pub Begins : ℕ → List ℕ → List ℕ → Changed → Type 0
-Begins c ws zs r = (n : ℕ) × (r ≡ Changed.Number n) × FreshPromise (tree words4) c ws zs n
+Begins c ws zs r = (a : Result (Unit {0}) Refusal) × (r ≡ Changed.Answered a) × FreshPromise (tree words4) c ws zs (answer_number a)
 
 -- A word inside the buffer is written; outside it nothing is.
 abbrev pub Pokes : ℕ → ℕ → List ℕ → List ℕ → Changed → Type 0
-Pokes i v ws zs r = ((i < length ws) × (r ≡ Changed.Number 0) × (zs ≡ set ws i v)) ⊎ ((length ws ≤ i) × (r ≡ Changed.Outside) × (zs ≡ ws))
+Pokes i v ws zs r = ((i < length ws) × (r ≡ Changed.Answered (Ok tt)) × (zs ≡ set ws i v)) ⊎ ((length ws ≤ i) × (r ≡ Changed.Outside) × (zs ≡ ws))
 
 -- No word is written.
 abbrev pub Keeps : List ℕ → List ℕ → Changed → Type 0

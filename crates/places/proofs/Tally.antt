@@ -9,19 +9,33 @@ use native.Mathlib.Omega.{arith}
 use borrow.Author.Tests.{eq-eqb, ne_eqb}
 use lib.Dec.{eqb}
 use lib.ListN.{length}
+use Rattle.std.specs.List.{filter, range_with_len}
 use Rattle.bits.proofs.Cases.{eq_or_ne}
 use Rattle.model.proofs.Tests.{both, fails, not_both}
 use Rattle.pool.specs.Means.{Among}
 use Rattle.places.specs.Marks.{tally}
 use Rattle.pool.proofs.Distinct.{Distinct}
 
--- ---- the loop that counts
+-- ---- the chain that counts
 
-pub tally_more : (f : ℕ → Bool) (i n m : ℕ) → n ≡ tally f i → f i ≡ true → m ≡ n + 1 → m ≡ tally f (i + 1)
-tally_more f i n m e t p = rw (add-one i) (rw t (p ∙ add-one n ∙ ap suc e))
+one_more : (f : ℕ → Bool) (i : ℕ) → f i ≡ true → tally f (i + 1) ≡ tally f i + 1
+one_more f i t = rw (add-one i) (rw t (omega arith))
 
-pub tally_same : (f : ℕ → Bool) (i n m : ℕ) → n ≡ tally f i → f i ≡ false → m ≡ n → m ≡ tally f (i + 1)
-tally_same f i n m e t p = rw (add-one i) (rw t (p ∙ e))
+no_more : (f : ℕ → Bool) (i : ℕ) → f i ≡ false → tally f (i + 1) ≡ tally f i
+no_more f i t = rw (add-one i) (rw t refl)
+
+-- from a on, the numbers that a filter keeps are those that the tally gains
+kept_from : (f : ℕ → Bool) (a n b : ℕ) → b ≡ a + n → tally f a + length (filter f (range_with_len a n)) ≡ tally f b
+kept_from f a zero b e = let same : a ≡ b = omega (arith, e) in omega (arith, ap (tally f) same)
+kept_from f a (suc n) b e = go (f a) refl (kept_from f (a + 1) n b (omega (arith, e)))
+  where
+    go : (q : Bool) → f a ≡ q → tally f (a + 1) + length (filter f (range_with_len (a + 1) n)) ≡ tally f b
+        → tally f a + length (filter f (range_with_len a (suc n))) ≡ tally f b
+    go true t h = rw t (omega (arith, h, one_more f a t))
+    go false t h = rw t (omega (arith, h, no_more f a t))
+
+pub kept_tally : (f : ℕ → Bool) (n : ℕ) → length (filter f (range_with_len 0 n)) ≡ tally f n
+kept_tally f n = omega (arith, kept_from f 0 n n (omega arith))
 
 -- a number that is not 0 passes
 pub passes : (n : ℕ) → (n ≡ 0 → ⊥) → not (eqb n 0) ≡ true

@@ -9,7 +9,7 @@ ghost use Rattle.places.specs.Marks.{mark_of, is_used, tally, Spare, FreePlace};
 use pool::Place;
 
 // The two sorts of places.
-#[derive(Clone, Copy)]
+#[derive(Clone, Copy, PartialEq, Eq)]
 pub enum Sort {
     Route,
     Inner,
@@ -32,15 +32,9 @@ pub fn used(pool: &[u32], capacity: usize, sort: Sort) -> usize
     requires { Fit ipv4 capacity pool.now }
     ensures { result ≡ tally (is_used ipv4 capacity pool.now sort) capacity }
 {
-    let mut count: usize = 0;
-    let mut at: usize = 0;
-    while at < capacity {
-        if mark_of(pool, capacity, sort, Place(at)) != 0 {
-            count += 1;
-        }
-        at += 1;
-    }
-    count
+    (0..capacity)
+        .filter(|at| mark_of(pool, capacity, sort, Place(*at)) != 0)
+        .count()
 }
 
 // A free place of a sort. None is listed anywhere, so the marks are looked along.
@@ -49,13 +43,6 @@ pub fn free(pool: &[u32], capacity: usize, sort: Sort) -> Place
     requires spare { Spare ipv4 capacity pool.now sort }
     ensures { FreePlace ipv4 capacity pool.now sort result.0 }
 {
-    let mut at: usize = 0;
-    while at < capacity {
-        let is_free = mark_of(pool, capacity, sort, Place(at)) == 0;
-        if is_free {
-            return Place(at);
-        }
-        at += 1;
-    }
-    Place(at)
+    let found = (0..capacity).find(|at| mark_of(pool, capacity, sort, Place(*at)) == 0);
+    Place(found.unwrap())
 }

@@ -4,16 +4,18 @@ use mathlib.Core.Path.{◌≡◌, refl, sym, ap, subst, ◌∙◌}
 use mathlib.Core.List.{List, [], ◌∷◌, ◌++◌, append_assoc}
 use mathlib.Core.Logic.{◌⊎◌, inr, ⊎_elim}
 use native.Mathlib.Omega.{arith}
+use Rattle.std.specs.Prelude.{Option, Some, None, Result, Ok, Err}
 use lib.ListN.{length}
 use Rattle.patricia.specs.Tree.{Entry}
 use Rattle.patricia.specs.Obeys.{Shorter, LongestFirst}
 use Rattle.pool.specs.Layout.{Layout, held_prefix, next_at}
 use Rattle.pool.specs.Link.{to_route}
 use Rattle.pool.specs.Holds.{Seat, InPlace, Chain}
+use Rattle.pool.specs.declared.damage.Damage.{Damage}
+use Rattle.pool.specs.declared.link.Place.{Place}
 use Rattle.pool.specs.Fit.{Fit}
 use Rattle.pool.proofs.Laid.{Laid, seat_in}
 use Rattle.search.specs.Chain.{HungRight}
-use Rattle.search.specs.declared.exact.Hung as hungs
 use Rattle.search.proofs.Chain.{chain_end}
 use Rattle.plan.specs.Cells.{end_cell, Longer}
 use Rattle.plan.specs.Steps.{NotLonger, ChainCell}
@@ -44,9 +46,6 @@ module _ {P : Type 0} (L : Layout P) where
 
     abbrev pub CellFrom : ℕ → Type 0
     CellFrom cell = (cell ≡ from) ⊎ ((p : ℕ) × (p < c) × (cell ≡ L.seat p + L.next_offset))
-
-    pub chain_start : (first : ℕ) → AllAt first from (to_route first)
-    chain_start first a es h s = record { longer = []; rest = es; whole = refl; cell_is = refl; longer_are = tt; hangs = h; sorted = s }
 
     -- the length that was read at a place of the chain
     length_read : (a i : ℕ) (x : Entry (Seat P)) → InPlace L c ws a x → x.payload.place ≡ i → (held_prefix L ws i).length ≡ x.length
@@ -102,7 +101,7 @@ module _ {P : Type 0} (L : Layout P) where
         pub chain_next : (j : ℕ) → next_at L ws i ≡ to_route j → AllAt first below (to_route j)
         chain_next j f a es h s = subst (AtCell a es below) f (chain_pass below e l a es h s).0
 
-        pub chain_last : i < c → next_at L ws i ≡ 0 → ChainCell L c ws from first n below
+        chain_last : i < c → next_at L ws i ≡ 0 → ChainCell L c ws from first n below
         chain_last m f = record {
           in_pool = inr (i, m, e);
           exact = λ a es h s. let b = (chain_pass below e l a es h s).0 in
@@ -116,10 +115,14 @@ module _ {P : Type 0} (L : Layout P) where
               };
         }
 
-        pub chain_damaged : i < c → HungRight L c ws i (held_prefix L ws i).length hungs.Hung.Damaged → ChainCell L c ws from first n below
-        chain_damaged m d = record {
-          in_pool = inr (i, m, e);
-          exact = λ a es h s. let v = chain_pass below e l a es h s in absurd (d a v.0.rest v.0.hangs v.1);
+        -- a longer route behind which no other was read
+        pub chain_left : i < c → (m : ℕ) → m ≡ (held_prefix L ws i).length → (r : Result (Option Place) Damage) → HungRight L c ws i m r
+            → ((j : Place) → r ≡ Ok (Some j) → ⊥) → ChainCell L c ws from first n below
+        chain_left u m f (Ok (Some p)) h o = absurd (o p refl)
+        chain_left u m f (Ok None) h o = chain_last u h
+        chain_left u m f (Err d) h o = record {
+          in_pool = inr (i, u, e);
+          exact = λ a es g s. let v = chain_pass below e l a es g s in absurd (h a v.0.rest v.0.hangs (subst (λ (x : ℕ). Shorter x v.0.rest) (sym f) v.1));
         }
 
 module _ {P : Type 0} (L : Layout P) (laid : Laid L) where

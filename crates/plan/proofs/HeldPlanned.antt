@@ -4,6 +4,7 @@ use mathlib.Core.Path.{◌≡◌, refl, sym, ap, subst, ◌∙◌}
 use mathlib.Core.List.{List, ◌∷◌, ◌++◌}
 use mathlib.Core.Option.{some}
 use native.Mathlib.Omega.{arith}
+use Rattle.std.specs.Prelude.{Option, Some, None, Ok}
 use lib.ListN.{length}
 use Rattle.model.specs.Prefix.{Prefix}
 use Rattle.model.specs.Routes.{Route, find}
@@ -17,15 +18,13 @@ use Rattle.pool.specs.Holds.{Seat, Seated, bare, Chain, Holds}
 use Rattle.pool.specs.declared.link.Place.{Place}
 use Rattle.pool.specs.Fit.{Fit}
 use Rattle.pool.proofs.Laid.{Laid}
-use Rattle.search.specs.Down.{Ways}
-use Rattle.search.specs.declared.descent.End as end
-use Rattle.search.proofs.Led.{led_not_empty, led_not_damaged, led_chain, led_longest}
+use Rattle.search.specs.Down.{End, Ways}
+use Rattle.search.proofs.Led.{led_chain, led_longest}
 use Rattle.plan.specs.Cells.{end_cell}
 use Rattle.plan.specs.Steps.{CellRight, ChainCell}
 use Rattle.plan.specs.Plan.{HungAt, HeldThere}
 use Rattle.plan.specs.Planned.{Has, HungIn, HungThere, HungFrom, HeldRight}
-use Rattle.plan.specs.declared.plan.HeldAt.{HeldAt}
-use Rattle.plan.specs.declared.plan.HeldAt.TheVariants as at
+use Rattle.plan.specs.declared.plan.Held.{Held}
 use Rattle.plan.proofs.Chains.{chain_split}
 use Rattle.plan.proofs.ChainAt.{cell_inside}
 use Rattle.plan.proofs.Lengths.{longest_tail, has_behind, has_first}
@@ -62,28 +61,23 @@ module _ {P : Type 0} (L : Layout P) (laid : Laid L) where
           (at).1.in_pool,
         )
 
-    pub hung_route : (j : Place) → Fit L c ws → from < length ws → word ws cell ≡ to_route j.0 → j.0 < c → HungFrom L c ws from i n (at.At cell j)
+    pub hung_route : (j : Place) → Fit L c ws → from < length ws → word ws cell ≡ to_route j.0 → j.0 < c
+        → HungFrom L c ws from i n (Some (record { cell = cell; place = j }))
     hung_route j f l e m = record {
       in_pool = (cell_inside L laid c ws from i n cell f l x, m);
       exact = λ a es h s w k. let v = hung_found a es h s w k in subst (HungIn L from n es cell) (omega (arith, v.2)) v.1;
     }
 
     -- what is no route of the pool is no link of a leaf
-    pub hung_nowhere : ((j : ℕ) → word ws cell ≡ to_route j → j < c → ⊥) → HungFrom L c ws from i n at.Nowhere
+    pub hung_nowhere : ((j : ℕ) → word ws cell ≡ to_route j → j < c → ⊥) → HungFrom L c ws from i n None
     hung_nowhere f = record { in_pool = tt; exact = λ a es h s w k. let v = hung_found a es h s w k in f v.0 v.2 v.3 }
 
   -- ---- in the whole tree
 
-  module _ (c : ℕ) (ws : List ℕ) (p : Prefix) (inner : List ℕ) (deep : ℕ) (stop : end.End) (ways : Ways L c ws p.address inner deep stop) where
-    pub held_empty : stop ≡ end.End.Empty → HeldRight L c ws p at.Nowhere
-    held_empty e = record { in_pool = tt; exact = λ t q h g f. led_not_empty L c ws p.address inner deep stop t (ways.leads t h g) e }
-
-    pub held_damaged : stop ≡ end.End.Damaged → HeldRight L c ws p at.Nowhere
-    held_damaged e = record { in_pool = tt; exact = λ t q h g f. led_not_damaged L c ws p.address inner deep stop t (ways.leads t h g) e }
-
-    module _ (i : Place) (e : stop ≡ end.End.Leaf i) (from : ℕ) (x : CellRight L c ws inner deep p.address from) where
+  module _ (c : ℕ) (ws : List ℕ) (p : Prefix) (inner : List ℕ) (deep : ℕ) (stop : End) (ways : Ways L c ws p.address inner deep stop) where
+    module _ (i : Place) (e : stop ≡ Ok (Some i)) (from : ℕ) (x : CellRight L c ws inner deep p.address from) where
       -- what is found of the leaf's routes
-      pub leaf_hung : (r : HeldAt) → HungFrom L c ws from i.0 p.length r → (t : Seated P) (q : Route P) (h : Holds L c ws (root_in ws) t) (g : Good L.rules.width (bare t))
+      pub leaf_hung : (r : Option Held) → HungFrom L c ws from i.0 p.length r → (t : Seated P) (q : Route P) (h : Holds L c ws (root_in ws) t) (g : Good L.rules.width (bare t))
           → find p (routes (bare t)) ≡ some q
           → HungThere L from p.length ((ways.leads t h g).entry ∷ (ways.leads t h g).rest) r
       leaf_hung r y t q h g f =
@@ -109,10 +103,10 @@ module _ {P : Type 0} (L : Layout P) (laid : Laid L) where
             length_is = v.length_is;
           }
 
-      pub held_leaf : (r : HeldAt) → HungFrom L c ws from i.0 p.length r → HeldRight L c ws p r
+      pub held_leaf : (r : Option Held) → HungFrom L c ws from i.0 p.length r → HeldRight L c ws p r
       held_leaf r y = record { in_pool = y.in_pool; exact = λ t q h g f. there t q h g f r (leaf_hung r y t q h g f) }
         where
-          there : (t : Seated P) (q : Route P) (h : Holds L c ws (root_in ws) t) (g : Good L.rules.width (bare t)) → find p (routes (bare t)) ≡ some q → (r : HeldAt)
+          there : (t : Seated P) (q : Route P) (h : Holds L c ws (root_in ws) t) (g : Good L.rules.width (bare t)) → find p (routes (bare t)) ≡ some q → (r : Option Held)
               → HungThere L from p.length ((ways.leads t h g).entry ∷ (ways.leads t h g).rest) r → HeldThere L c p t r
-          there t q h g f (at.At cell j) v = (v.entry, hung_whole t q h g f cell j.0 v, v.place_is)
-          there t q h g f at.Nowhere v = v
+          there t q h g f (Some at) v = (v.entry, hung_whole t q h g f at.cell at.place.0 v, v.place_is)
+          there t q h g f None v = v

@@ -4,6 +4,8 @@ use mathlib.Core.Path.{◌≡◌, sym, ap, subst, ◌∙◌}
 use mathlib.Core.List.{List, ◌∷◌}
 use mathlib.Core.Option.{some}
 use native.Mathlib.Omega.{arith}
+use Rattle.std.specs.Prelude.{Option, Some, Ok, Err}
+use Rattle.std.specs.Result.{result_ok}
 use Rattle.model.specs.Prefix.{Prefix}
 use Rattle.model.specs.Routes.{Route, InOrder, find}
 use Rattle.patricia.specs.Way.{reached}
@@ -17,8 +19,7 @@ use Rattle.pool.specs.Link.{to_route}
 use Rattle.pool.specs.Holds.{Seated, bare, bare_entries, Chain, Holds}
 use Rattle.pool.specs.declared.link.Place.{Place}
 use Rattle.pool.proofs.Laid.{Laid}
-use Rattle.search.specs.Down.{Led, Ways}
-use Rattle.search.specs.declared.descent.End as end
+use Rattle.search.specs.Down.{End, Led, Ways}
 use Rattle.search.proofs.Bare.{bare_way, bare_follows}
 use Rattle.search.proofs.Led.{led_chain, led_bare, led_good}
 use Rattle.plan.specs.Cells.{cell_of}
@@ -28,14 +29,19 @@ use Rattle.plan.proofs.Way.{HoldsWay, plug_way}
 use Rattle.plan.proofs.CellAt.{right_cell}
 use Rattle.plan.proofs.Lengths.{found_has}
 
+-- the end of a way that the code found a leaf at
+pub leaf_end : (stop : End) (o : Option (Option Place)) (f : Option Place) (i : Place) → o ≡ result_ok stop → o ≡ Some f → f ≡ Some i → stop ≡ Ok (Some i)
+leaf_end (Ok x) o f i e g h = cc
+leaf_end (Err d) o f i e g h = cc
+
 module _ {P : Type 0} (L : Layout P) where
   -- where there is no root the way ends nowhere
-  pub rooted : (c : ℕ) (ws : List ℕ) (d : ℕ) (inner : List ℕ) (deep : ℕ) (stop : end.End) (i : Place) → Ways L c ws d inner deep stop → stop ≡ end.End.Leaf i → root_in ws ≡ 0
+  pub rooted : (c : ℕ) (ws : List ℕ) (d : ℕ) (inner : List ℕ) (deep : ℕ) (stop : End) (i : Place) → Ways L c ws d inner deep stop → stop ≡ Ok (Some i) → root_in ws ≡ 0
       → ⊥
   rooted c ws d inner deep stop i ways e z = let f = ways.empty z in let y : ◌≡◌ {A = ℕ} 0 1 = cc in omega arith
 
 module _ {P : Type 0} (L : Layout P) (laid : Laid L) where
-  module _ (c : ℕ) (ws : List ℕ) (p : Prefix) (inner : List ℕ) (deep : ℕ) (stop : end.End) (t : Seated P) (h : Holds L c ws (root_in ws) t) (g : Good L.rules.width (bare t))
+  module _ (c : ℕ) (ws : List ℕ) (p : Prefix) (inner : List ℕ) (deep : ℕ) (stop : End) (t : Seated P) (h : Holds L c ws (root_in ws) t) (g : Good L.rules.width (bare t))
       (l : Led L c ws p.address inner deep stop t) where
     -- the way and the leaf stand in the words
     lead_parts : HoldsWay L c ws l.way × Holds L c ws (word ws (cell_of L c l.way)) (leaf l.address (l.entry ∷ l.rest))
@@ -69,7 +75,7 @@ module _ {P : Type 0} (L : Layout P) (laid : Laid L) where
         ap (reached L.rules.width p.address) (led_bare L c ws p.address inner deep stop t l)
         ∙ reached_plug L.rules.width p.address (bare_way l.way) (leaf l.address (bare_entries (l.entry ∷ l.rest))) (bare_follows L.rules.width p.address l.way l.follows)
 
-    module _ (i : Place) (e : stop ≡ end.End.Leaf i) where
+    module _ (i : Place) (e : stop ≡ Ok (Some i)) where
       lead_place : l.entry.payload.place ≡ i.0
       lead_place = omega (arith, (led_chain L c ws p.address inner deep stop t l i e).0)
 

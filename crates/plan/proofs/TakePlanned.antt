@@ -5,6 +5,7 @@ use mathlib.Core.List.{List, [], ◌∷◌, ◌++◌}
 use mathlib.Core.Logic.{◌⊎◌, inl, inr}
 use mathlib.Core.Option.{some}
 use native.Mathlib.Omega.{arith}
+use Rattle.std.specs.Prelude.{Some, None, Ok}
 use lib.ListN.{length, get_or}
 use Rattle.bits.specs.Address.{bit}
 use Rattle.model.specs.Prefix.{Prefix}
@@ -18,15 +19,13 @@ use Rattle.pool.specs.Means.{Among}
 use Rattle.pool.specs.declared.link.Place.{Place}
 use Rattle.pool.proofs.Frame.{among_append, routes_in_pool}
 use Rattle.pool.proofs.Laid.{Laid}
-use Rattle.search.specs.Down.{Kept, Led, Ways}
-use Rattle.search.specs.declared.descent.End as end
-use Rattle.search.proofs.Led.{led_not_empty, led_not_damaged}
+use Rattle.search.specs.Down.{End, Kept, Led, Ways}
 use Rattle.search.proofs.Chain.{chain_end}
 use Rattle.plan.specs.Cells.{cell_of, end_cell}
 use Rattle.plan.specs.Steps.{WayUsable, CellRight}
 use Rattle.plan.specs.Plan.{TakenAt}
 use Rattle.plan.specs.Planned.{HungIn, HungFrom, LoneAt, LoneRight, TakeRight}
-use Rattle.plan.specs.declared.plan.HeldAt.TheVariants as at
+use Rattle.plan.specs.declared.plan.Held.{Held}
 use Rattle.plan.specs.declared.plan.TakePlan.{TakePlan}
 use Rattle.plan.specs.declared.plan.TakePlan.TheVariants as taken
 use Rattle.plan.proofs.Way.{HoldsWay, plug_way}
@@ -113,16 +112,11 @@ module _ {P : Type 0} (L : Layout P) (laid : Laid L) where
 
   -- ---- in the whole tree
 
-  module _ (c : ℕ) (ws : List ℕ) (p : Prefix) (inner : List ℕ) (deep : ℕ) (stop : end.End) (ways : Ways L c ws p.address inner deep stop) where
-    pub take_empty : stop ≡ end.End.Empty → TakeRight L c ws p taken.Nowhere
-    take_empty e = record { in_pool = tt; exact = λ t q h g f. led_not_empty L c ws p.address inner deep stop t (ways.leads t h g) e }
-
-    pub take_damaged : stop ≡ end.End.Damaged → TakeRight L c ws p taken.Nowhere
-    take_damaged e = record { in_pool = tt; exact = λ t q h g f. led_not_damaged L c ws p.address inner deep stop t (ways.leads t h g) e }
-
-    module _ (i : Place) (e : stop ≡ end.End.Leaf i) (from : ℕ) (x : CellRight L c ws inner deep p.address from) where
-      pub take_nowhere : HungFrom L c ws from i.0 p.length at.Nowhere → TakeRight L c ws p taken.Nowhere
-      take_nowhere y = record { in_pool = tt; exact = λ t q h g f. leaf_hung L laid c ws p inner deep stop ways i e from x at.Nowhere y t q h g f }
+  module _ (c : ℕ) (ws : List ℕ) (p : Prefix) (inner : List ℕ) (deep : ℕ) (stop : End) (ways : Ways L c ws p.address inner deep stop) where
+    module _ (i : Place) (e : stop ≡ Ok (Some i)) (from : ℕ) (x : CellRight L c ws inner deep p.address from) where
+      -- none of the leaf's routes has the length
+      pub take_none : HungFrom L c ws from i.0 p.length None → TakeRight L c ws p None
+      take_none y = record { in_pool = tt; exact = λ t q h g f. leaf_hung L laid c ws p inner deep stop ways i e from x None y t q h g f }
 
       -- the leaf's routes hang from its cell
       leaf_chain : (t : Seated P) (h : Holds L c ws (root_in ws) t) (g : Good L.rules.width (bare t)) (l : Led L c ws p.address inner deep stop t)
@@ -131,22 +125,24 @@ module _ {P : Type 0} (L : Layout P) (laid : Laid L) where
           subst (λ (y : ℕ). Chain L c ws l.address (word ws y) (l.entry ∷ l.rest)) (lead_cell L laid c ws p inner deep stop t h g l from x)
           (lead_leaf L laid c ws p inner deep stop t h g l)
 
-      module _ (cell : ℕ) (j : Place) (y : HungFrom L c ws from i.0 p.length (at.At cell j)) where
-        pub take_link : (cell ≡ from → ⊥) ⊎ (next_at L ws j.0 ≡ 0 → ⊥) → TakeRight L c ws p (taken.Link cell j)
+      module _ (at : Held) (y : HungFrom L c ws from i.0 p.length (Some at)) where
+        pub take_link : (at.cell ≡ from → ⊥) ⊎ (next_at L ws at.place.0 ≡ 0 → ⊥) → TakeRight L c ws p (Some (taken.Link at.cell at.place))
         unfolding hung_whole
         take_link o = record { in_pool = y.in_pool; exact = linked }
           where
-            linked : (t : Seated P) (q : Route P) → Holds L c ws (root_in ws) t → Good L.rules.width (bare t) → find p (routes (bare t)) ≡ some q → TakenAt L c ws p t (taken.Link cell j)
+            linked : (t : Seated P) (q : Route P) → Holds L c ws (root_in ws) t → Good L.rules.width (bare t) → find p (routes (bare t)) ≡ some q
+                → TakenAt L c ws p t (Some (taken.Link at.cell at.place))
             linked t q h g f =
                 let l = ways.leads t h g in
-                let v = leaf_hung L laid c ws p inner deep stop ways i e from x (at.At cell j) y t q h g f in (
+                let v = leaf_hung L laid c ws p inner deep stop ways i e from x (Some at) y t q h g f in (
                   v.entry,
-                  hung_whole L laid c ws p inner deep stop ways i e from x t q h g f cell j.0 v,
+                  hung_whole L laid c ws p inner deep stop ways i e from x t q h g f at.cell at.place.0 v,
                   v.place_is,
-                  some_others c ws l.address from p.length (l.entry ∷ l.rest) cell j.0 (leaf_chain t h g l) v o,
+                  some_others c ws l.address from p.length (l.entry ∷ l.rest) at.cell at.place.0 (leaf_chain t h g l) v o,
                 )
 
-        pub take_lone : (r : TakePlan) → cell ≡ from → next_at L ws j.0 ≡ 0 → LoneRight L c ws inner deep p.address j.0 r → TakeRight L c ws p r
+        pub take_lone : (r : TakePlan) → at.cell ≡ from → next_at L ws at.place.0 ≡ 0 → LoneRight L c ws inner deep p.address at.place.0 r
+            → TakeRight L c ws p (Some r)
         take_lone r same z d = record {
           in_pool = d.in_pool;
           exact = λ t q h g f. alone t q h g f r (d.exact (ways.leads t h g).way _ (subst (Holds L c ws (root_in ws)) (sym (ways.leads t h g).whole) h)
@@ -154,23 +150,24 @@ module _ {P : Type 0} (L : Layout P) (laid : Laid L) where
         }
           where
             alone : (t : Seated P) (q : Route P) (h : Holds L c ws (root_in ws) t) (g : Good L.rules.width (bare t)) → find p (routes (bare t)) ≡ some q → (r : TakePlan)
-                → LoneAt L c ws j.0 (ways.leads t h g).way r → TakenAt L c ws p t r
+                → LoneAt L c ws at.place.0 (ways.leads t h g).way r → TakenAt L c ws p t (Some r)
             alone t q h g f r b = go r b
               where
                 l : Led L c ws p.address inner deep stop t
                 l = ways.leads t h g
 
-                v : HungIn L from p.length (l.entry ∷ l.rest) cell j.0
-                v = leaf_hung L laid c ws p inner deep stop ways i e from x (at.At cell j) y t q h g f
+                v : HungIn L from p.length (l.entry ∷ l.rest) at.cell at.place.0
+                v = leaf_hung L laid c ws p inner deep stop ways i e from x (Some at) y t q h g f
 
                 whole : plug l.way (leaf p.address (v.entry ∷ [])) ≡ t
                 whole =
-                    let one = no_others c ws l.address from p.length (l.entry ∷ l.rest) cell j.0 (leaf_chain t h g l) v l.way (lead_cell L laid c ws p inner deep stop t h g l from x)
+                    let one = no_others c ws l.address from p.length (l.entry ∷ l.rest) at.cell at.place.0 (leaf_chain t h g l) v l.way
+                    (lead_cell L laid c ws p inner deep stop t h g l from x)
                     (routes_in_pool L c ws ws _ (leaf l.address (l.entry ∷ l.rest)) (lead_leaf L laid c ws p inner deep stop t h g l)) same z in
                     let mine = (lead_found L laid c ws p inner deep stop t h g l q f).0 in
                     (λ k. plug l.way (leaf (mine k) (one k))) ∙ l.whole
 
-                go : (r : TakePlan) → LoneAt L c ws j.0 l.way r → TakenAt L c ws p t r
+                go : (r : TakePlan) → LoneAt L c ws at.place.0 l.way r → TakenAt L c ws p t (Some r)
                 go (taken.Link up k) b = absurd b
                 go (taken.Leaf up m link k) b = (
                   v.entry,
@@ -185,4 +182,3 @@ module _ {P : Type 0} (L : Layout P) (laid : Laid L) where
                   b.5,
                 )
                 go (taken.Last k) b = (v.entry, subst (λ (w : List (Step ℕ (Seat P))). plug w (leaf p.address (v.entry ∷ [])) ≡ t) b.0 whole, v.length_is, v.place_is ∙ sym b.1)
-                go taken.Nowhere b = absurd b

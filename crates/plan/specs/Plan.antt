@@ -1,5 +1,5 @@
 -- Where a route goes in, and where one is taken out: read off a sound pool before a word is written.
-use Rattle.std.specs.Prelude.{ℕ, ◌≡◌, List, [], ◌∷◌, ◌++◌}
+use Rattle.std.specs.Prelude.{ℕ, ◌≡◌, List, [], ◌∷◌, ◌++◌, Option, Some, None}
 use Rattle.std.proofs.Math.Option.{none}
 use Rattle.bits.specs.Address.{Part}
 use Rattle.model.specs.Prefix.{Prefix}
@@ -15,8 +15,7 @@ use Rattle.plan.specs.declared.plan.PutPlan.{PutPlan}
 use Rattle.plan.specs.declared.plan.PutPlan.TheVariants as put
 use Rattle.plan.specs.declared.plan.TakePlan.{TakePlan}
 use Rattle.plan.specs.declared.plan.TakePlan.TheVariants as taken
-use Rattle.plan.specs.declared.plan.HeldAt.{HeldAt}
-use Rattle.plan.specs.declared.plan.HeldAt.TheVariants as at
+use Rattle.plan.specs.declared.plan.Held.{Held}
 
 module _ {P : Type 0} (L : Layout P) where
   -- The address is held: the route hangs between its longer and its shorter routes, at this cell.
@@ -65,16 +64,16 @@ module _ {P : Type 0} (L : Layout P) where
     pub length_is : e.length ≡ p.length
 
   -- Where a prefix that is there hangs.
-  abbrev pub HeldThere : ℕ → Prefix → Seated P → HeldAt → Type 0
-  HeldThere c p t (at.At cell i) = (e : Entry (Seat P)) × HungAt c p t cell e × (e.payload.place ≡ i.0)
-  HeldThere c p t at.Nowhere = ⊥
+  abbrev pub HeldThere : ℕ → Prefix → Seated P → Option Held → Type 0
+  HeldThere c p t (Some h) = (e : Entry (Seat P)) × HungAt c p t h.cell e × (e.payload.place ≡ h.place.0)
+  HeldThere c p t None = ⊥
 
   -- Where a prefix that is there is taken out: from a leaf that has other routes; with its leaf, whose sibling takes the place of the inner place above
   -- them; or as the last route of the table.
-  abbrev pub TakenAt : ℕ → List ℕ → Prefix → Seated P → TakePlan → Type 0
-  TakenAt c ws p t (taken.Link cell i) = (e : Entry (Seat P)) × (h : HungAt c p t cell e) × (e.payload.place ≡ i.0) × (h.longer ++ h.shorter ≡ [] → ⊥)
-  TakenAt c ws p t (taken.Leaf up j link i) =
+  abbrev pub TakenAt : ℕ → List ℕ → Prefix → Seated P → Option TakePlan → Type 0
+  TakenAt c ws p t (Some (taken.Link cell i)) = (e : Entry (Seat P)) × (h : HungAt c p t cell e) × (e.payload.place ≡ i.0) × (h.longer ++ h.shorter ≡ [] → ⊥)
+  TakenAt c ws p t (Some (taken.Leaf up j link i)) =
       (e : Entry (Seat P)) × (d : Step ℕ (Seat P)) × (w : List (Step ℕ (Seat P))) × (plug (d ∷ w) (leaf p.address (e ∷ [])) ≡ t) × Follows L.rules.width p.address (d ∷ w) × (e.length ≡ p.length)
       × (e.payload.place ≡ i.0) × (place_of d ≡ j.0) × (cell_of L c w ≡ up) × (sibling_link L c ws d ≡ link)
-  TakenAt c ws p t (taken.Last i) = (e : Entry (Seat P)) × (leaf p.address (e ∷ []) ≡ t) × (e.length ≡ p.length) × (e.payload.place ≡ i.0)
-  TakenAt c ws p t taken.Nowhere = ⊥
+  TakenAt c ws p t (Some (taken.Last i)) = (e : Entry (Seat P)) × (leaf p.address (e ∷ []) ≡ t) × (e.length ≡ p.length) × (e.payload.place ≡ i.0)
+  TakenAt c ws p t None = ⊥

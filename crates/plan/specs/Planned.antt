@@ -1,5 +1,5 @@
 -- What the plans promise of any words, and of words that hold a tree.
-use Rattle.std.specs.Prelude.{ℕ, ◌≤◌, ◌<◌, ◌≡◌, List, [], ◌∷◌, ◌++◌, ◌⊎◌, length}
+use Rattle.std.specs.Prelude.{ℕ, ◌≤◌, ◌<◌, ◌≡◌, List, [], ◌∷◌, ◌++◌, ◌⊎◌, length, Option, Some, None}
 use Rattle.std.proofs.Math.Option.{some}
 use Rattle.model.specs.Prefix.{Prefix}
 use Rattle.model.specs.Routes.{Route, find}
@@ -17,8 +17,7 @@ use Rattle.plan.specs.declared.plan.PutPlan.{PutPlan}
 use Rattle.plan.specs.declared.plan.PutPlan.TheVariants as put
 use Rattle.plan.specs.declared.plan.TakePlan.{TakePlan}
 use Rattle.plan.specs.declared.plan.TakePlan.TheVariants as taken
-use Rattle.plan.specs.declared.plan.HeldAt.{HeldAt}
-use Rattle.plan.specs.declared.plan.HeldAt.TheVariants as at
+use Rattle.plan.specs.declared.plan.Held.{Held}
 
 -- ---- the cells and places of a plan are in the pool
 
@@ -29,16 +28,20 @@ PutInPool W ws (put.Hang cell) = cell < length ws
 PutInPool W ws (put.Join cell k) = (cell < length ws) × (k ≤ W)
 
 -- Of a route that is held.
-abbrev pub HeldInPool : ℕ → List ℕ → HeldAt → Type 0
-HeldInPool c ws (at.At cell i) = (cell < length ws) × (i.0 < c)
-HeldInPool c ws at.Nowhere = Unit {0}
+abbrev pub HeldInPool : ℕ → List ℕ → Option Held → Type 0
+HeldInPool c ws (Some h) = (h.cell < length ws) × (h.place.0 < c)
+HeldInPool c ws None = Unit {0}
 
 -- Of a plan to take out.
-abbrev pub TakeInPool : ℕ → List ℕ → TakePlan → Type 0
-TakeInPool c ws (taken.Link cell i) = (cell < length ws) × (i.0 < c)
-TakeInPool c ws (taken.Leaf up j link i) = (up < length ws) × (j.0 < c) × (i.0 < c)
-TakeInPool c ws (taken.Last i) = i.0 < c
-TakeInPool c ws taken.Nowhere = Unit {0}
+abbrev pub PlanInPool : ℕ → List ℕ → TakePlan → Type 0
+PlanInPool c ws (taken.Link cell i) = (cell < length ws) × (i.0 < c)
+PlanInPool c ws (taken.Leaf up j link i) = (up < length ws) × (j.0 < c) × (i.0 < c)
+PlanInPool c ws (taken.Last i) = i.0 < c
+
+-- Of one, if there is one.
+abbrev pub TakeInPool : ℕ → List ℕ → Option TakePlan → Type 0
+TakeInPool c ws (Some r) = PlanInPool c ws r
+TakeInPool c ws None = Unit {0}
 
 module _ {P : Type 0} where
   -- One of these routes has length n.
@@ -61,12 +64,12 @@ module _ {P : Type 0} (L : Layout P) where
     pub place_is : entry.payload.place ≡ i
 
   -- Where the route of length n is found; it is one of these routes.
-  abbrev pub HungThere : ℕ → ℕ → List (Entry (Seat P)) → HeldAt → Type 0
-  HungThere from n es (at.At cell i) = HungIn from n es cell i.0
-  HungThere from n es at.Nowhere = ⊥
+  abbrev pub HungThere : ℕ → ℕ → List (Entry (Seat P)) → Option Held → Type 0
+  HungThere from n es (Some h) = HungIn from n es h.cell h.place.0
+  HungThere from n es None = ⊥
 
   -- What a look along the routes of an address finds.
-  pub record HungFrom (c : ℕ) (ws : List ℕ) (from i n : ℕ) (r : HeldAt) : Type 0 where
+  pub record HungFrom (c : ℕ) (ws : List ℕ) (from i n : ℕ) (r : Option Held) : Type 0 where
     -- of any words
     pub in_pool : HeldInPool c ws r
     -- of routes that hang from place i, longest first, one of which has length n
@@ -80,23 +83,22 @@ module _ {P : Type 0} (L : Layout P) where
   LoneAt c ws i w (taken.Leaf up j link k) =
       (d : Step ℕ (Seat P)) × (v : List (Step ℕ (Seat P))) × (w ≡ d ∷ v) × (place_of d ≡ j.0) × (cell_of L c v ≡ up) × (sibling_link L c ws d ≡ link) × (k.0 ≡ i)
   LoneAt c ws i w (taken.Last k) = (w ≡ []) × (k.0 ≡ i)
-  LoneAt c ws i w taken.Nowhere = ⊥
 
   -- What the way above a lone route says of taking it out.
   pub record LoneRight (c : ℕ) (ws : List ℕ) (inner : List ℕ) (n a i : ℕ) (r : TakePlan) : Type 0 where
     -- of any words
-    pub in_pool : TakeInPool c ws r
+    pub in_pool : PlanInPool c ws r
     -- of a way of n steps in a tree, whose places are in the array
     pub exact : (w : List (Step ℕ (Seat P))) (t : Seated P) → Holds L c ws (root_in ws) (plug w t) → n ≡ length w → Kept inner w → Follows L.rules.width a w → LoneAt c ws i w r
 
   -- ---- in the whole pool
 
   -- Where a prefix that is there hangs.
-  pub record HeldRight (c : ℕ) (ws : List ℕ) (p : Prefix) (r : HeldAt) : Type 0 where
+  pub record HeldRight (c : ℕ) (ws : List ℕ) (p : Prefix) (r : Option Held) : Type 0 where
     pub in_pool : HeldInPool c ws r
     pub exact : (t : Seated P) (q : Route P) → Holds L c ws (root_in ws) t → Good L.rules.width (bare t) → find p (routes (bare t)) ≡ some q → HeldThere L c p t r
 
   -- Where a prefix that is there is taken out.
-  pub record TakeRight (c : ℕ) (ws : List ℕ) (p : Prefix) (r : TakePlan) : Type 0 where
+  pub record TakeRight (c : ℕ) (ws : List ℕ) (p : Prefix) (r : Option TakePlan) : Type 0 where
     pub in_pool : TakeInPool c ws r
     pub exact : (t : Seated P) (q : Route P) → Holds L c ws (root_in ws) t → Good L.rules.width (bare t) → find p (routes (bare t)) ≡ some q → TakenAt L c ws p t r

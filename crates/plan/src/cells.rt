@@ -5,7 +5,7 @@ ghost use Rattle.plan.specs.Steps.{WayUsable, CellRight, LevelRight, ChainCell};
 
 use pool::Place;
 use route::Length;
-use search::{Hung, Steps};
+use search::Steps;
 
 // A place does not say which side the way took, so the address's bit says it again.
 pub fn cell_of(pool: &[u32], capacity: usize, inner: Steps, depth: usize, address: u32) -> usize
@@ -19,7 +19,7 @@ pub fn cell_of(pool: &[u32], capacity: usize, inner: Steps, depth: usize, addres
     let place = Place(inner[depth - 1]);
     let mark = pool::mark_at(pool, capacity, place);
     let side = bits::bit_of(address, mark - 1);
-    pool::joint(capacity, place) + 1 + pool::wide(side)
+    pool::joint(capacity, place) + 1 + side as usize
 }
 
 // The bits grow down the way, so the first place that tests a later bit ends the count.
@@ -28,15 +28,13 @@ pub fn level_of(pool: &[u32], capacity: usize, inner: Steps, depth: usize, index
     requires way_usable { WayUsable ipv4 capacity pool.now inner depth }
     ensures { LevelRight ipv4 capacity pool.now inner depth index result }
 {
-    let mut level: usize = 0;
-    while level < depth {
+    for level in 0..depth {
         let mark = pool::mark_at(pool, capacity, Place(inner[level]));
         if index < mark - 1 {
             return level;
         }
-        level += 1;
     }
-    level
+    depth
 }
 
 // The routes of an address hang longest first, so the cell is before the first that is not longer.
@@ -54,16 +52,9 @@ pub fn chain_cell(pool: &[u32], capacity: usize, from: usize, first: Place, leng
             return cell;
         }
         cell = pool::seat(place) + pool::NEXT_OFFSET;
-        match search::follow(pool, capacity, place, held.length) {
-            Hung::Route(next) => {
-                place = next;
-            }
-            Hung::End => {
-                return cell;
-            }
-            Hung::Damaged => {
-                return cell;
-            }
-        }
+        let Ok(Some(next)) = search::follow(pool, capacity, place, held.length) else {
+            return cell;
+        };
+        place = next;
     }
 }

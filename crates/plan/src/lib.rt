@@ -4,4 +4,4 @@
 mod cells;
 mod plan;
 
-pub use plan::{HeldAt, PutPlan, TakePlan, held_at, plan_put, plan_take};
+pub use plan::{Held, PutPlan, TakePlan, held_at, plan_put, plan_take};

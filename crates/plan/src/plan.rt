@@ -9,7 +9,7 @@ ghost use Rattle.plan.specs.Planned.{PutInPool, HungFrom, HeldRight, LoneRight, 
 use super::cells::{cell_of, chain_cell, level_of};
 use pool::{Link, Place};
 use route::{Length, Prefix};
-use search::{End, Steps};
+use search::Steps;
 
 // Where a route goes in.
 #[derive(Clone, Copy)]
@@ -31,14 +31,13 @@ pub enum TakePlan {
     Leaf(usize, Place, u32, Place),
     // The table's last route.
     Last(Place),
-    Nowhere,
 }
 
 // The cell that links to a route, and its place.
 #[derive(Clone, Copy)]
-pub enum HeldAt {
-    At(usize, Place),
-    Nowhere,
+pub struct Held {
+    pub cell: usize,
+    pub place: Place,
 }
 
 // The leaf that the address leads to is its own, or shows by its bits where the two part.
@@ -48,60 +47,48 @@ pub fn plan_put(pool: &[u32], capacity: usize, prefix: Prefix) -> PutPlan
     ensures put_in_pool { PutInPool 32 pool.now result }
 {
     let way = search::down(pool, capacity, prefix.address);
+    let Ok(Some(first)) = way.end else {
+        return PutPlan::First;
+    };
     let inner = way.inner;
-    let end = way.end;
-    match end {
-        End::Leaf(first) => {
-            let held = pool::prefix_at(pool, pool::seat(first) + pool::PREFIX_OFFSET);
-            if held.address == prefix.address {
-                let from = cell_of(pool, capacity, inner, way.depth, prefix.address);
-                return PutPlan::Hang(chain_cell(pool, capacity, from, first, prefix.length));
-            }
-            let index = bits::parting(prefix.address, held.address);
-            let level = level_of(pool, capacity, inner, way.depth, index);
-            PutPlan::Join(cell_of(pool, capacity, inner, level, prefix.address), index)
-        }
-        End::Empty => PutPlan::First,
-        End::Damaged => PutPlan::First,
+    let held = pool::prefix_at(pool, pool::seat(first) + pool::PREFIX_OFFSET);
+    if held.address == prefix.address {
+        let from = cell_of(pool, capacity, inner, way.depth, prefix.address);
+        return PutPlan::Hang(chain_cell(pool, capacity, from, first, prefix.length));
     }
+    let index = bits::parting(prefix.address, held.address);
+    let level = level_of(pool, capacity, inner, way.depth, index);
+    PutPlan::Join(cell_of(pool, capacity, inner, level, prefix.address), index)
 }
 
 // The first route that is not longer is the one of this length, where there is one.
-fn hung_at(pool: &[u32], capacity: usize, from: usize, first: Place, length: Length) -> HeldAt
+fn hung_at(pool: &[u32], capacity: usize, from: usize, first: Place, length: Length) -> Option<Held>
     requires fit { Fit ipv4 capacity pool.now }
     requires first_lt_capacity { (first.0 < capacity) × (from < count pool.now) }
     ensures { HungFrom ipv4 capacity pool.now from first.0 length.0 result }
 {
     let cell = chain_cell(pool, capacity, from, first, length);
-    match pool::link_from(pool[cell]) {
+    match pool::link_from(pool[cell])? {
         Link::Route(place) => {
             if place.0 < capacity {
-                HeldAt::At(cell, place)
+                Some(Held { cell, place })
             } else {
-                HeldAt::Nowhere
+                None
             }
         }
-        Link::Inner(_) => HeldAt::Nowhere,
-        Link::Nothing => HeldAt::Nowhere,
+        Link::Inner(_) => None,
     }
 }
 
 // Down by the address and along its routes. An absent prefix may be given the place of another.
-pub fn held_at(pool: &[u32], capacity: usize, prefix: Prefix) -> HeldAt
+pub fn held_at(pool: &[u32], capacity: usize, prefix: Prefix) -> Option<Held>
     requires { Fit ipv4 capacity pool.now }
     ensures { HeldRight ipv4 capacity pool.now (prefix_of prefix) result }
 {
     let way = search::down(pool, capacity, prefix.address);
-    let inner = way.inner;
-    let end = way.end;
-    match end {
-        End::Leaf(first) => {
-            let from = cell_of(pool, capacity, inner, way.depth, prefix.address);
-            hung_at(pool, capacity, from, first, prefix.length)
-        }
-        End::Empty => HeldAt::Nowhere,
-        End::Damaged => HeldAt::Nowhere,
-    }
+    let first = way.end.ok()??;
+    let from = cell_of(pool, capacity, way.inner, way.depth, prefix.address);
+    hung_at(pool, capacity, from, first, prefix.length)
 }
 
 // The last route of a leaf takes the leaf and the inner place above it along: what stays there is the other side.
@@ -134,30 +121,25 @@ fn plan_lone(
 }
 
 // A route that has others of its address before or behind it leaves a leaf; one alone takes its leaf along.
-pub fn plan_take(pool: &[u32], capacity: usize, prefix: Prefix) -> TakePlan
+pub fn plan_take(pool: &[u32], capacity: usize, prefix: Prefix) -> Option<TakePlan>
     requires { Fit ipv4 capacity pool.now }
     ensures { TakeRight ipv4 capacity pool.now (prefix_of prefix) result }
 {
     let way = search::down(pool, capacity, prefix.address);
-    let inner = way.inner;
-    let end = way.end;
-    match end {
-        End::Leaf(first) => {
-            let from = cell_of(pool, capacity, inner, way.depth, prefix.address);
-            match hung_at(pool, capacity, from, first, prefix.length) {
-                HeldAt::At(cell, place) => {
-                    if cell != from {
-                        return TakePlan::Link(cell, place);
-                    }
-                    if pool::next_at(pool, place) != 0 {
-                        return TakePlan::Link(cell, place);
-                    }
-                    plan_lone(pool, capacity, inner, way.depth, prefix.address, place)
-                }
-                HeldAt::Nowhere => TakePlan::Nowhere,
-            }
-        }
-        End::Empty => TakePlan::Nowhere,
-        End::Damaged => TakePlan::Nowhere,
+    let first = way.end.ok()??;
+    let from = cell_of(pool, capacity, way.inner, way.depth, prefix.address);
+    let held = hung_at(pool, capacity, from, first, prefix.length)?;
+    let is_alone = held.cell == from && pool::next_at(pool, held.place) == 0;
+    if is_alone {
+        Some(plan_lone(
+            pool,
+            capacity,
+            way.inner,
+            way.depth,
+            prefix.address,
+            held.place,
+        ))
+    } else {
+        Some(TakePlan::Link(held.cell, held.place))
     }
 }

@@ -6,3 +6,4 @@ pub mod Fit
 pub mod Link
 pub mod Holds
 pub mod Means
+pub mod Action

@@ -2,29 +2,30 @@ ghost use Rattle.std.specs.Prelude.{◌≡◌, ◌≤◌};
 ghost use Rattle.pool.specs.Link.{link_from, to_route, to_inner};
 
 // A place in the pool: a route place, or an inner place.
-#[derive(Clone, Copy)]
+#[derive(Clone, Copy, PartialEq, Eq)]
 pub struct Place(pub usize);
 
 // What a link leads to.
-#[derive(Clone, Copy)]
+#[derive(Clone, Copy, PartialEq, Eq)]
 pub enum Link {
-    Nothing,
     Route(Place),
     Inner(Place),
 }
 
-// What a word means as a link. Any word means something; whether the place is in the pool is for the caller to test.
-pub fn link_from(word: u32) -> Link
+// What a word means as a link, which leads to nothing where the word is 0. Any word means something; whether the place is in the pool is
+// for the caller to test.
+#[tactic(auto, unfolding(crate::specs::Link::link_from))]
+pub fn link_from(word: u32) -> Option<Link>
     ensures { result ≡ link_from word }
 {
     let half = (word / 2) as usize;
     if word == 0 {
-        return Link::Nothing;
+        return None;
     }
     if word % 2 == 1 {
-        return Link::Route(Place(half));
+        return Some(Link::Route(Place(half)));
     }
-    Link::Inner(Place(half - 1))
+    Some(Link::Inner(Place(half - 1)))
 }
 
 // The word that links to a route place.

@@ -9,26 +9,16 @@ use super::layout;
 use super::link::Place;
 use route::{Hop, Length, Metric, Origin, Payload, Port, Prefix, Route};
 
-// A word as an index.
-pub fn wide(x: u32) -> usize
-    ensures { result ≡ x }
-{
-    x as usize
-}
-
 // The hop of three words. What a kind does not use is not looked at, and a kind that is none is read as reject.
 fn hop_at(pool: &[u32], at: usize) -> Hop
     requires { at + 2 < length pool.now }
     ensures { hop_of result ≡ hop_at pool.now at }
 {
-    let kind = pool[at];
-    if kind == 1 {
-        return Hop::Direct(Port(pool[at + 1]));
+    match pool[at] {
+        1 => Hop::Direct(Port(pool[at + 1])),
+        2 => Hop::Via(Port(pool[at + 1]), pool[at + 2]),
+        _ => Hop::Reject,
     }
-    if kind == 2 {
-        return Hop::Via(Port(pool[at + 1]), pool[at + 2]);
-    }
-    Hop::Reject
 }
 
 // The origin of two words. A fixed one does not look at the metric, and a word that is no origin's is read as fixed.
@@ -36,10 +26,10 @@ fn origin_at(pool: &[u32], at: usize) -> Origin
     requires { at + 1 < length pool.now }
     ensures { origin_of result ≡ origin_at pool.now at }
 {
-    if pool[at] == 1 {
-        return Origin::Learned(Metric(pool[at + 1]));
+    match pool[at] {
+        1 => Origin::Learned(Metric(pool[at + 1])),
+        _ => Origin::Fixed,
     }
-    Origin::Fixed
 }
 
 // The payload whose words begin here.
@@ -59,13 +49,7 @@ pub fn payload_there(pool: &[u32], at: usize) -> bool
     ensures { (result ≡ true) ↔ PayloadThere ipv4 pool.now at }
 {
     let kind = pool[at];
-    if kind == 0 {
-        return false;
-    }
-    if 3 < kind {
-        return false;
-    }
-    pool[at + layout::ORIGIN_OFFSET] <= 1
+    1 <= kind && kind <= 3 && pool[at + layout::ORIGIN_OFFSET] <= 1
 }
 
 // The prefix of two words.

@@ -1,76 +1,63 @@
 ghost use Rattle.std.specs.Prelude.{◌≡◌, true, ◌↔◌, ℕ, List};
 ghost use Rattle.model.specs.Call as call;
 ghost use Rattle.route.specs.Means.{prefix_of};
-ghost use Rattle.route.specs.Answers.{found_number, found_value, room_number, room_value, measured_number, measured_value};
+ghost use Rattle.route.specs.Answers.{answer_number, found_value, room_value, measured_value};
 ghost use Rattle.pool.specs.Ipv4.{ipv4};
 ghost use Rattle.promise.specs.Trees.{tree};
 ghost use Rattle.promise.specs.Table.{Sound};
 ghost use Rattle.promise.specs.Promise.{Promise, LookupPromise};
 
-use route::{Found, Measured, Prefix, Refusal, Room};
-use verdict::{Own, Verdict, own_words, tested};
+use route::{Answer, Length, Prefix, Refusal, Route};
+use verdict::{own_words, tested};
 
 // Whether a pool is sound: yes exactly when it is.
 pub fn sound(pool: &[u32]) -> bool
     ensures { (result ≡ true) ↔ Sound (tree ipv4) pool.now }
 {
-    match tested(pool) {
-        Verdict::Sound(_) => true,
-        Verdict::NotSound => false,
-    }
+    tested(pool).is_ok()
 }
 
 // The route for a destination. It is the call made per packet, so it does not test the whole pool.
-pub fn lookup(pool: &[u32], destination: u32) -> Found
-    ensures { LookupPromise (tree ipv4) destination pool.now (found_number result) (found_value result) }
+pub fn lookup(pool: &[u32], destination: u32) -> Answer<Route>
+    ensures { LookupPromise (tree ipv4) destination pool.now (answer_number result) (found_value result) }
 {
-    match own_words(pool) {
-        Own::Capacity(capacity) => {
-            let own = pool::size_of(capacity);
-            climb::longest_match(&pool[..own], capacity, destination)
-        }
-        Own::Short => Found::Refused(Refusal::NotSound),
-    }
+    let capacity = own_words(pool)?;
+    let own = pool::size_of(capacity);
+    climb::longest_match(&pool[..own], capacity, destination)
 }
 
 // The first route of the walk.
-pub fn first(pool: &[u32]) -> Found
-    ensures { Promise (tree ipv4) call.first pool.now pool.now (found_number result) (found_value result) }
+pub fn first(pool: &[u32]) -> Answer<Route>
+    ensures { Promise (tree ipv4) call.first pool.now pool.now (answer_number result) (found_value result) }
 {
-    let Verdict::Sound(capacity) = tested(pool) else {
-        return Found::Refused(Refusal::NotSound);
-    };
+    let capacity = tested(pool)?;
     let own = pool::size_of(capacity);
     walk::first(&pool[..own], capacity)
 }
 
 // The next route after a prefix, held or not.
-pub fn next(pool: &[u32], prefix: Prefix) -> Found
-    ensures { Promise (tree ipv4) (call.after (prefix_of prefix)) pool.now pool.now (found_number result) (found_value result) }
+pub fn next(pool: &[u32], prefix: Prefix) -> Answer<Route>
+    ensures { Promise (tree ipv4) (call.after (prefix_of prefix)) pool.now pool.now (answer_number result) (found_value result) }
 {
-    let Verdict::Sound(capacity) = tested(pool) else {
-        return Found::Refused(Refusal::NotSound);
-    };
+    let capacity = tested(pool)?;
     if !prefix.well_formed() {
-        return Found::Refused(Refusal::BadPrefix);
+        return Err(Refusal::BadPrefix);
     }
     let own = pool::size_of(capacity);
     walk::next(&pool[..own], capacity, prefix)
 }
 
 // How many routes the table still takes.
-pub fn room_left(pool: &[u32]) -> Room
-    ensures { Promise (tree ipv4) call.room pool.now pool.now (room_number result) (room_value result) }
+pub fn room_left(pool: &[u32]) -> Answer<u32>
+    ensures { Promise (tree ipv4) call.room pool.now pool.now (answer_number result) (room_value result) }
 {
-    let Verdict::Sound(_) = tested(pool) else {
-        return Room::Refused(Refusal::NotSound);
-    };
-    Room::Left(pool[pool::AT_CAPACITY] - pool[pool::AT_COUNT])
+    tested(pool)?;
+    Ok(pool[pool::AT_CAPACITY] - pool[pool::AT_COUNT])
 }
 
 // The length of a mask. It is asked of no pool: whatever words there are, it leaves them.
-pub fn mask_length(mask: u32) -> Measured
-    ensures { (ws : List ℕ) → Promise (tree ipv4) (call.mask mask) ws ws (measured_number result) (measured_value result) }
+pub fn mask_length(mask: u32) -> Answer<Length>
+    ensures { (ws : List ℕ) → Promise (tree ipv4) (call.mask mask) ws ws (answer_number result) (measured_value result) }
 {
     route::measure(mask)
 }

@@ -11,7 +11,7 @@ ghost use Rattle.promise.specs.Run.{Ran};
 ghost use Rattle.promise.specs.Trees.{tree};
 ghost use Rattle.rehearsal.specs.Transcript.{transcript, left};
 
-use route::{Done, Hand, Hop, Length, Metric, Origin, Payload, Port, Prefix, Route};
+use route::{Hand, Hop, Length, Metric, Origin, Payload, Port, Prefix, Route};
 
 // Routes B, J and K of the bsdi table, J as a learned one, and two of their prefixes by another port.
 const B: Route = Route {
@@ -76,9 +76,9 @@ pub fn rehearse(pool: &mut [u32]) -> bool
     ensures ran { result ≡ true → Ran (tree ipv4) (transcript (length pool.old)) pool.new }
     ensures routes_value { result ≡ true → (s : State model.Payload) → Means ipv4 pool.new s → s.routes ≡ left }
 {
-    let Done::Yes = table::fresh(pool, 3) else {
+    if table::fresh(pool, 3).is_err() {
         return false;
-    };
+    }
     let _ = table::add(pool, B);
     let _ = table::add(pool, J3);
     let _ = table::delete(pool, Hand::Learner, B.prefix);

@@ -1,114 +1,74 @@
-// The answers as lines.
+// The answers as lines. None of it has a promise: it is lent the words to read, which is why they stay as they are, and what is printed
+// is compared with what a second program prints.
 use super::routes::{Words, list};
-use super::text::{byte, number_line, route_line, text};
 use command::Command;
 use numeral::Fault;
-use route::{Found, Measured, Room};
+use route::Answer;
+use std::fmt::Display;
+use std::io::Write;
 
-fn reason(fault: Fault) {
-    match fault {
-        Fault::UnknownCommand => text(b"unknown command\n"),
-        Fault::BadAddress => text(b"bad address\n"),
-        Fault::BadNumber => text(b"bad number\n"),
-        Fault::BadPrefix => text(b"bad prefix\n"),
-        Fault::BadHop => text(b"bad hop\n"),
-        Fault::TooFewWords => text(b"too few words\n"),
-        Fault::TooManyWords => text(b"too many words\n"),
-        Fault::LineTooLong => text(b"line too long\n"),
-        Fault::OutsideBuffer => text(b"outside the buffer\n"),
-    }
+// What is wrong with a line.
+pub fn wrong<W: Write>(out: &mut W, line: u64, fault: Fault) {
+    let _ = writeln!(out, "error: line {line}: {fault}");
 }
 
-// What is wrong with a line. It has no promise: no contract can speak of what is printed.
-pub fn wrong(line: u64, fault: Fault) {
-    text(b"error: line ");
-    io::print_decimal(1, line);
-    text(b": ");
-    reason(fault);
+// The number of a change.
+pub fn changed<W: Write>(out: &mut W, answer: Answer<()>) {
+    let number = route::number(answer);
+    let _ = writeln!(out, "{number}");
 }
 
-// What stands before the value of an accepted call.
-fn accepted() {
-    text(b"0 ");
-}
-
-// A route, or the number of the refusal.
-fn found(answer: Found) {
-    let Found::Route(r) = answer else {
-        number_line(answer.number());
-        return;
-    };
-    accepted();
-    route_line(r);
-}
-
-fn room(words: &Words) {
-    let answer = table::room_left(words);
-    let Room::Left(left) = answer else {
-        number_line(answer.number());
-        return;
-    };
-    accepted();
-    number_line(left);
-}
-
-fn mask(bits: u32) {
-    let answer = table::mask_length(bits);
-    let Measured::Length(length) = answer else {
-        number_line(answer.number());
-        return;
-    };
-    accepted();
-    number_line(length.0);
-}
-
-fn sound(words: &Words) {
-    if table::sound(words) {
-        text(b"yes\n");
-    } else {
-        text(b"no\n");
+// A value behind a 0, or the number of the refusal.
+fn told<W: Write, T: Display + Drop>(out: &mut W, answer: Answer<T>) {
+    match answer {
+        Ok(value) => {
+            let _ = writeln!(out, "0 {value}");
+        }
+        Err(refusal) => {
+            let number = refusal.number();
+            let _ = writeln!(out, "{number}");
+        }
     }
 }
 
 // The words that a capacity needs, or 0 for a capacity that fresh refuses.
-fn needed(capacity: u32) {
-    if capacity == 0 {
-        number_line(0);
-        return;
+fn needed(capacity: u32) -> usize {
+    match capacity {
+        1..=pool::LIMIT => pool::size_of(capacity as usize),
+        _ => 0,
     }
-    if pool::LIMIT < capacity {
-        number_line(0);
-        return;
-    }
-    io::print_decimal(1, pool::size_of(pool::wide(capacity)) as u64);
-    byte(b'\n');
 }
 
-fn peek(words: &Words, index: u32, line: u64) {
-    let i = pool::wide(index);
-    if words.len() <= i {
-        wrong(line, Fault::OutsideBuffer);
-        return;
-    }
-    number_line(words[i]);
-}
-
-// The commands that only ask, and those that are none. It has no promise: it is lent the words to read, which is why they stay as
-// they are, and no contract can speak of what is printed.
-pub fn asked(words: &Words, command: Command, line: u64) {
-    match command {
-        Command::Lookup(destination) => found(table::lookup(words, destination)),
-        Command::First => found(table::first(words)),
-        Command::Next(prefix) => found(table::next(words, prefix)),
-        Command::Room => room(words),
-        Command::Mask(bits) => mask(bits),
-        Command::Sound => sound(words),
-        Command::List => {
-            let _ = list(words);
+fn peek<W: Write>(out: &mut W, words: &Words, index: u32, line: u64) {
+    match words.get(index as usize) {
+        Some(word) => {
+            let _ = writeln!(out, "{word}");
         }
-        Command::Words(capacity) => needed(capacity),
-        Command::Peek(index) => peek(words, index, line),
-        Command::Wrong(fault) => wrong(line, fault),
+        None => wrong(out, line, Fault::OutsideBuffer),
+    }
+}
+
+// The commands that only ask, and those that are none.
+pub fn asked<W: Write>(out: &mut W, words: &Words, command: Command, line: u64) {
+    match command {
+        Command::Lookup(destination) => told(out, table::lookup(words, destination)),
+        Command::First => told(out, table::first(words)),
+        Command::Next(prefix) => told(out, table::next(words, prefix)),
+        Command::Room => told(out, table::room_left(words)),
+        Command::Mask(bits) => told(out, table::mask_length(bits).map(|length| length.0)),
+        Command::Sound => {
+            let answer = if table::sound(words) { "yes" } else { "no" };
+            let _ = writeln!(out, "{answer}");
+        }
+        Command::List => {
+            let _ = list(out, words);
+        }
+        Command::Words(capacity) => {
+            let needed = needed(capacity);
+            let _ = writeln!(out, "{needed}");
+        }
+        Command::Peek(index) => peek(out, words, index, line),
+        Command::Wrong(fault) => wrong(out, line, fault),
         _ => {}
     }
 }

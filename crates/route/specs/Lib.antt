@@ -1,3 +1,4 @@
 pub mod Means
 pub mod Answers
 pub mod Masks
+pub mod Text

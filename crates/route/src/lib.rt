@@ -6,8 +6,9 @@ mod answer;
 mod hop;
 mod origin;
 mod prefix;
+mod show;
 
-pub use answer::{Done, Found, Measured, Refusal, Room, measure};
+pub use answer::{Answer, Refusal, measure, number};
 pub use hop::{Hop, Payload, Port, Route};
 pub use origin::{Hand, Metric, Origin};
 pub use prefix::{Length, Prefix};

@@ -4,14 +4,14 @@ ghost use Rattle.model.specs.Ipv4.{good_metric, hand_of};
 ghost use Rattle.route.specs.Means.{origin_of, hand_is};
 
 // How far away a learned route leads.
-#[derive(Clone, Copy)]
+#[derive(Clone, Copy, PartialEq, Eq)]
 pub struct Metric(pub u32);
 
 // The last metric that a learned route may have; the first is 1.
 pub const LAST_METRIC: u32 = 15;
 
 // Where a route came from: the keeper fixed it, or it was learned.
-#[derive(Clone, Copy)]
+#[derive(Clone, Copy, PartialEq, Eq)]
 pub enum Origin {
     Fixed,
     Learned(Metric),
@@ -19,15 +19,13 @@ pub enum Origin {
 
 impl Origin {
     // A learned metric runs from 1 to 15.
+    #[tactic(auto, unfolding(model::specs::Ipv4::good_metric))]
     pub fn is_good(self) -> bool
         ensures { result ≡ good_metric (origin_of self) }
     {
         match self {
             Origin::Fixed => true,
-            Origin::Learned(metric) => {
-                let zero = metric.0 == 0;
-                if zero { false } else { metric.0 <= LAST_METRIC }
-            }
+            Origin::Learned(metric) => 1 <= metric.0 && metric.0 <= LAST_METRIC,
         }
     }
 
@@ -43,7 +41,7 @@ impl Origin {
 }
 
 // Whose hand makes a change: the keeper's own, by a plain call, or a learner's.
-#[derive(Clone, Copy)]
+#[derive(Clone, Copy, PartialEq, Eq)]
 pub enum Hand {
     Plain,
     Learner,
@@ -54,12 +52,6 @@ impl Hand {
     pub fn guards(self, by: Hand) -> bool
         ensures { result ≡ guards (hand_is self) (hand_is by) }
     {
-        match self {
-            Hand::Plain => match by {
-                Hand::Plain => false,
-                Hand::Learner => true,
-            },
-            Hand::Learner => false,
-        }
+        self == Hand::Plain && by == Hand::Learner
     }
 }

@@ -4,26 +4,24 @@ ghost use Rattle.model.specs.Masked.{masked_length, masked};
 ghost use Rattle.model.specs.Ipv4.{may_hold};
 ghost use Rattle.route.specs.Means.{prefix_of};
 
-use super::answer::{Measured, measure};
+use super::answer::measure;
 
 // A prefix length: how many bits of the address count.
-#[derive(Clone, Copy)]
+#[derive(Clone, Copy, PartialEq, Eq)]
 pub struct Length(pub u32);
 
 impl Length {
     // The length that goes with a mask: its ones, or one that no prefix has where the mask has a hole.
+    #[tactic(auto, unfolding(crate::specs::Masks::measured_as, model::specs::Masked::masked_length))]
     pub fn of_mask(mask: u32) -> Length
         ensures { result.0 ≡ masked_length 32 mask }
     {
-        match measure(mask) {
-            Measured::Length(length) => length,
-            Measured::Refused(_) => Length(Prefix::WIDTH + 1),
-        }
+        measure(mask).unwrap_or(Length(Prefix::WIDTH + 1))
     }
 }
 
 // The prefix of a route: an address and how much of it counts.
-#[derive(Clone, Copy)]
+#[derive(Clone, Copy, PartialEq, Eq)]
 pub struct Prefix {
     pub address: u32,
     pub length: Length,
@@ -71,17 +69,16 @@ impl Prefix {
     }
 
     // Whether document 01's "What the table holds" allows the prefix: the length fits the width, and no bit is set past it.
+    #[tactic(auto, unfolding(model::specs::Prefix::well_formed))]
     pub fn well_formed(self) -> bool
         ensures { result ≡ well_formed 32 (prefix_of self) }
     {
         let length = self.length.0;
-        if Prefix::WIDTH < length {
-            return false;
-        }
-        bits::is_clear(self.address, length)
+        length <= Prefix::WIDTH && bits::is_clear(self.address, length)
     }
 
     // Whether the table may hold it, of those that are well formed.
+    #[tactic(auto, unfolding(model::specs::Ipv4::may_hold))]
     pub fn may_be_held(self) -> bool
         ensures { result ≡ may_hold (prefix_of self) }
     {
@@ -90,6 +87,7 @@ impl Prefix {
 
     // Whether a destination's first bits are the prefix's. A length past the width counts as the width, so that whatever a
     // damaged pool holds has an answer.
+    #[tactic(auto, unfolding(model::specs::Prefix::matches, bits::specs::Address::first))]
     pub fn matches(self, destination: u32) -> bool
         ensures { result ≡ matches 32 (prefix_of self) destination }
     {
@@ -102,24 +100,18 @@ impl Prefix {
     }
 
     // Whether it comes before another in the walk: the lower address first, for one address the longer prefix.
+    #[tactic(auto, unfolding(model::specs::Prefix::before))]
     pub fn comes_before(self, other: Prefix) -> bool
         ensures { result ≡ before (prefix_of self) (prefix_of other) }
     {
-        if self.address == other.address {
-            other.length.0 < self.length.0
-        } else {
-            self.address < other.address
-        }
+        (self.address, other.length.0) < (other.address, self.length.0)
     }
 
     // Whether the two are one prefix.
+    #[tactic(auto, unfolding(model::specs::Prefix::same))]
     pub fn is(self, other: Prefix) -> bool
         ensures { result ≡ same (prefix_of self) (prefix_of other) }
     {
-        if self.address == other.address {
-            self.length.0 == other.length.0
-        } else {
-            false
-        }
+        self == other
     }
 }

@@ -1,15 +1,20 @@
 -- The routes of one leaf, one behind the other: what is known at a place of the chain, and what a step does to it.
-use Prim.Native.Nat.{ℕ, ◌<◌}
+use Prim.Native.Nat.{ℕ, ◌+◌, ◌<◌}
 use mathlib.Core.Path.{◌≡◌, refl, sym, ap, subst, ◌∙◌}
 use mathlib.Core.List.{List, [], ◌∷◌}
 use native.Mathlib.Omega.{arith}
 use Rattle.model.specs.Prefix.{Prefix}
 use Rattle.patricia.specs.Tree.{Entry, route_of}
 use Rattle.patricia.specs.Obeys.{Shorter, LongestFirst}
-use Rattle.pool.specs.Layout.{Layout, held_prefix, held_payload, next_at}
+use Rattle.pool.specs.Layout.{Layout, prefix_at, held_prefix, held_payload, next_at}
 use Rattle.pool.specs.Fit.{route_at}
 use Rattle.pool.specs.Link.{to_route, to_inner}
 use Rattle.pool.specs.Holds.{Seat, bare_entry, InPlace, Chain}
+
+-- the prefix that was read where a place begins is the one that it holds
+pub held_read : {P : Type 0} (L : Layout P) (ws : List ℕ) (i at : ℕ) (p : Prefix) → at ≡ L.seat i → p ≡ prefix_at L ws (at + L.prefix_offset)
+    → p ≡ held_prefix L ws i
+held_read L ws i at p e f = f ∙ ap (λ (n : ℕ). prefix_at L ws (n + L.prefix_offset)) e
 
 module _ {P : Type 0} (L : Layout P) (c : ℕ) (ws : List ℕ) where
   -- ---- what a place of the chain holds
@@ -28,7 +33,8 @@ module _ {P : Type 0} (L : Layout P) (c : ℕ) (ws : List ℕ) where
 
   -- ---- what a link of the chain leads to
 
-  pub chain_inside : (a link n i : ℕ) (es : List (Entry (Seat P))) → Chain L c ws a link es → Shorter n es → link ≡ to_route i → (i < c) × ((held_prefix L ws i).length < n)
+  pub chain_inside : (a link n i : ℕ) (es : List (Entry (Seat P))) → Chain L c ws a link es → Shorter n es → link ≡ to_route i
+      → (i < c) × ((held_prefix L ws i).length < n)
   chain_inside a link n i [] h s e = let u : link ≡ 0 = h in absurd (omega arith)
   chain_inside a link n i (x ∷ xs) h s e =
       let u : link ≡ to_route x.payload.place = h.0 in
@@ -74,7 +80,8 @@ module _ {P : Type 0} (L : Layout P) (c : ℕ) (ws : List ℕ) where
           carries = λ o q. q;
         }
 
-    pub behind_next : (i j : ℕ) (es : List (Entry (Seat P))) (b : Behind Q a i es) → next_at L ws i ≡ to_route j → ((o : A) → Q o b.rest → Q o (b.entry ∷ b.rest)) → Behind Q a j es
+    pub behind_next : (i j : ℕ) (es : List (Entry (Seat P))) (b : Behind Q a i es) → next_at L ws i ≡ to_route j → ((o : A) → Q o b.rest → Q o (b.entry ∷ b.rest))
+        → Behind Q a j es
     behind_next i j es b e skip = let n = behind_start (next_at L ws i) j b.rest e b.hangs b.longest in record {
       entry = n.entry;
       rest = n.rest;
@@ -86,7 +93,8 @@ module _ {P : Type 0} (L : Layout P) (c : ℕ) (ws : List ℕ) where
       carries = λ o q. b.carries o (skip o (n.carries o q));
     }
 
-    pub behind_last : (i : ℕ) (es : List (Entry (Seat P))) (b : Behind Q a i es) → next_at L ws i ≡ 0 → ((o : A) → Q o b.rest → Q o (b.entry ∷ b.rest)) → (o : A) → Q o []
+    pub behind_last : (i : ℕ) (es : List (Entry (Seat P))) (b : Behind Q a i es) → next_at L ws i ≡ 0 → ((o : A) → Q o b.rest → Q o (b.entry ∷ b.rest))
+        → (o : A) → Q o []
         → Q o es
     behind_last i es b e skip o q = b.carries o (skip o (subst (Q o) (sym (chain_end a (next_at L ws i) b.rest b.hangs e)) q))
 

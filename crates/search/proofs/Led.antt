@@ -2,7 +2,7 @@
 use Prim.Native.Nat.{ℕ}
 use mathlib.Core.Path.{◌≡◌, sym, ap, subst, ◌∙◌}
 use mathlib.Core.List.{List, ◌∷◌}
-use native.Mathlib.Omega.{arith}
+use Rattle.std.specs.Prelude.{Some, None, Ok, Err}
 use Rattle.patricia.specs.Good.{Good}
 use Rattle.patricia.specs.Tree.{leaf}
 use Rattle.patricia.specs.Obeys.{LeafObeys, LongestFirst}
@@ -12,21 +12,20 @@ use Rattle.pool.specs.Layout.{Layout}
 use Rattle.pool.specs.Link.{to_route}
 use Rattle.pool.specs.Holds.{Seated, bare, bare_entries, Chain}
 use Rattle.pool.specs.declared.link.Place.{Place}
-use Rattle.search.specs.Down.{Led}
-use Rattle.search.specs.declared.descent.End.{End}
-use Rattle.search.specs.declared.descent.End.TheVariants.{Leaf, Empty, Damaged}
+use Rattle.pool.specs.declared.damage.Damage.{Damage}
+use Rattle.search.specs.Down.{Led, End}
 use Rattle.search.proofs.Bare.{bare_way, bare_plug, bare_longest}
 
 module _ {P : Type 0} (L : Layout P) (c : ℕ) (ws : List ℕ) (d : ℕ) (inner : List ℕ) (deep : ℕ) (stop : End) (t : Seated P) (l : Led L c ws d inner deep stop t) where
   -- a way to a leaf ends at no other thing
-  pub led_not_empty : stop ≡ Empty → ⊥
-  led_not_empty e = let f = l.ends in let z : ◌≡◌ {A = ℕ} 0 1 = cc in omega arith
+  pub led_not_empty : stop ≡ Ok None → ⊥
+  led_not_empty e = let f = l.ends in cc
 
-  pub led_not_damaged : stop ≡ Damaged → ⊥
-  led_not_damaged e = let f = l.ends in let z : ◌≡◌ {A = ℕ} 0 1 = cc in omega arith
+  pub led_not_damaged : {x : Damage} → stop ≡ Err x → ⊥
+  led_not_damaged e = let f = l.ends in cc
 
   -- the leaf's routes hang from the place that was read
-  pub led_chain : (p : Place) → stop ≡ Leaf p → Chain L c ws l.address (to_route p.0) (l.entry ∷ l.rest)
+  pub led_chain : (p : Place) → stop ≡ Ok (Some p) → Chain L c ws l.address (to_route p.0) (l.entry ∷ l.rest)
   led_chain p e =
       let f = l.ends in
       let q : ◌≡◌ {A = Place} (record { 0 = l.entry.payload.place }) p = cc in

@@ -7,6 +7,7 @@ use native.Mathlib.Nat.{suc_inj}
 use native.Mathlib.Omega.{arith}
 use lib.ListN.{length, get_or, set}
 use lib.Seq.{get_or-set_same, get_or-set_other}
+use Rattle.std.specs.Prelude.{Some, None, Ok}
 use Rattle.bits.specs.Address.{bit}
 use Rattle.bits.proofs.Cases.{eq_or_ne}
 use Rattle.patricia.specs.Good.{Good}
@@ -18,10 +19,8 @@ use Rattle.pool.specs.Link.{to_route, to_inner}
 use Rattle.pool.specs.Holds.{Seat, Seated, bare, Holds}
 use Rattle.pool.proofs.Unique.{not_nothing}
 use Rattle.search.specs.Seen.{Starts, SeenRight}
-use Rattle.search.specs.Down.{AllUsable}
-use Rattle.search.specs.Down.{Kept, Led, Usable, Ways}
-use Rattle.search.specs.declared.descent.Seen.TheVariants.{Leaf, Inner, Damaged}
-use Rattle.search.specs.declared.descent.End as end
+use Rattle.search.specs.Down.{AllUsable, Kept, Led, Usable, Ways}
+use Rattle.search.specs.declared.descent.Seen.TheVariants.{Leaf, Inner}
 use Rattle.search.proofs.Bare.{bare_grows, depth_plug, bare_depth}
 
 module _ {P : Type 0} (L : Layout P) where
@@ -34,7 +33,8 @@ module _ {P : Type 0} (L : Layout P) where
   kept_set inner n v (went_right j b r ∷ w) h k =
       (get_or-set_other inner n (length w) v 0 (λ e. omega arith) ∙ k.0, kept_set inner n v w (omega arith) k.1)
 
-  pub usable_more : (c : ℕ) (ws inner : List ℕ) (n j b lowest link : ℕ) → AllUsable L c ws inner n → n < length inner → SeenRight L c ws link lowest (Inner (record { 0 = j }) b)
+  pub usable_more : (c : ℕ) (ws inner : List ℕ) (n j b lowest link : ℕ) → AllUsable L c ws inner n → n < length inner
+      → SeenRight L c ws link lowest (Ok (Inner (record { 0 = j }) b))
       → AllUsable L c ws (set inner n j) (n + 1)
   usable_more c ws inner n j b lowest link u h s k l = ⊎_elim here there (eq_or_ne k n)
     where
@@ -64,16 +64,10 @@ module _ {P : Type 0} (L : Layout P) where
   abbrev pub AllPartway : ℕ → List ℕ → ℕ → List ℕ → ℕ → ℕ → ℕ → Type 0
   AllPartway c ws d inner deep link lowest = (t : Seated P) → Holds L c ws (root_in ws) t → Good L.rules.width (bare t) → Partway c ws d inner deep link lowest t
 
-  pub starts_zero : (t : Seated P) → Starts 0 t
-  starts_zero (leaf a es) = tt
-  starts_zero (node j b l r) = omega arith
-
-  pub at_root_lem : (c : ℕ) (ws : List ℕ) (d : ℕ) (inner : List ℕ) → AllPartway c ws d inner 0 (root_in ws) 0
-  at_root_lem c ws d inner t h g = record { way = []; part = t; whole = refl; follows = tt; steps = refl; places = tt; there = h; good = g; later = starts_zero t }
-
   -- a step down
-  pub step_down : (c : ℕ) (ws : List ℕ) (d : ℕ) (inner : List ℕ) (deep link lowest j b next : ℕ) → AllPartway c ws d inner deep link lowest → deep < length inner
-      → SeenRight L c ws link lowest (Inner (record { 0 = j }) b) → next ≡ toward (bit L.rules.width b d) (left_at L c ws j) (right_at L c ws j)
+  pub step_down : (c : ℕ) (ws : List ℕ) (d : ℕ) (inner : List ℕ) (deep link lowest j b next : ℕ) → AllPartway c ws d inner deep link lowest
+      → deep < length inner
+      → SeenRight L c ws link lowest (Ok (Inner (record { 0 = j }) b)) → next ≡ toward (bit L.rules.width b d) (left_at L c ws j) (right_at L c ws j)
       → AllPartway c ws d (set inner deep j) (deep + 1) next (b + 1)
   step_down c ws d inner deep link lowest j b next all room s n t h g = let p = all t h g in go p.part p.whole p.there p.good
     where
@@ -127,14 +121,15 @@ module _ {P : Type 0} (L : Layout P) where
           }
 
   -- at a leaf
-  at_leaf : (c : ℕ) (ws : List ℕ) (d : ℕ) (inner : List ℕ) (deep link lowest i : ℕ) → AllPartway c ws d inner deep link lowest → link ≡ to_route i → (t : Seated P)
-      → Holds L c ws (root_in ws) t → Good L.rules.width (bare t) → Led L c ws d inner deep (end.End.Leaf (record { 0 = i })) t
+  at_leaf : (c : ℕ) (ws : List ℕ) (d : ℕ) (inner : List ℕ) (deep link lowest i : ℕ) → AllPartway c ws d inner deep link lowest → link ≡ to_route i
+      → (t : Seated P)
+      → Holds L c ws (root_in ws) t → Good L.rules.width (bare t) → Led L c ws d inner deep (Ok (Some (record { 0 = i }))) t
   at_leaf c ws d inner deep link lowest i all s t h g = go p.part p.whole p.there
     where
       p : Partway c ws d inner deep link lowest t
       p = all t h g
 
-      go : (x : Seated P) → plug p.way x ≡ t → Holds L c ws link x → Led L c ws d inner deep (end.End.Leaf (record { 0 = i })) t
+      go : (x : Seated P) → plug p.way x ≡ t → Holds L c ws link x → Led L c ws d inner deep (Ok (Some (record { 0 = i }))) t
       go (leaf a []) w k = absurd k
       go (leaf a (e ∷ es)) w k =
           let u : link ≡ to_route e.payload.place = k.0 in
@@ -149,35 +144,25 @@ module _ {P : Type 0} (L : Layout P) where
             steps = p.steps;
             deep = omega (arith, p.steps, bare_depth L.rules.width d t, ap (depth L.rules.width d) w, depth_plug L.rules.width d p.way (leaf a (e ∷ es)) p.follows);
             places = p.places;
-            ends = ap (λ (x : ℕ). end.End.Leaf (record { 0 = x })) same;
+            ends = ap (λ (x : ℕ). Ok (Some (record { 0 = x }))) same;
             hangs = (refl, k.1, k.2);
           }
       go (node j b l r) w k = let u : link ≡ to_inner j = k.0 in absurd (omega arith)
 
-  -- ---- the three ends
+  -- ---- the ends
 
-  module _ (c : ℕ) (ws : List ℕ) (d : ℕ) (inner : List ℕ) (deep : ℕ) where
-    pub ways_leaf : (link lowest i : ℕ) → deep ≤ L.rules.width → AllUsable L c ws inner deep → AllPartway c ws d inner deep link lowest → (root_in ws ≡ 0 → ⊥)
-        → SeenRight L c ws link lowest (Leaf (record { 0 = i })) → Ways L c ws d inner deep (end.End.Leaf (record { 0 = i }))
-    ways_leaf link lowest i h u all n s = record {
-      shallow = h;
-      usable = u;
-      end_in_pool = s.0;
-      empty = λ e. absurd (n e);
-      leads = at_leaf c ws d inner deep link lowest i all s.1;
-    }
+  pub ways_leaf : (c : ℕ) (ws : List ℕ) (d : ℕ) (inner : List ℕ) (deep link lowest i : ℕ) → deep ≤ L.rules.width → AllUsable L c ws inner deep
+      → AllPartway c ws d inner deep link lowest → (root_in ws ≡ 0 → ⊥) → SeenRight L c ws link lowest (Ok (Leaf (record { 0 = i })))
+      → Ways L c ws d inner deep (Ok (Some (record { 0 = i })))
+  ways_leaf c ws d inner deep link lowest i h u all n s = record {
+    shallow = h;
+    usable = u;
+    end_in_pool = s.0;
+    empty = λ e. absurd (n e);
+    leads = at_leaf c ws d inner deep link lowest i all s.1;
+  }
 
-    pub ways_damaged : (link lowest : ℕ) → deep ≤ L.rules.width → AllUsable L c ws inner deep → AllPartway c ws d inner deep link lowest → (root_in ws ≡ 0 → ⊥)
-        → SeenRight L c ws link lowest Damaged → Ways L c ws d inner deep end.End.Damaged
-    ways_damaged link lowest h u all n s = record {
-      shallow = h;
-      usable = u;
-      end_in_pool = tt;
-      empty = λ e. absurd (n e);
-      leads = λ t k g. let p = all t k g in absurd (s p.part p.there p.good p.later);
-    }
-
-  pub ways_empty : (c : ℕ) (ws : List ℕ) (d : ℕ) (inner : List ℕ) → root_in ws ≡ 0 → Ways L c ws d inner 0 end.End.Empty
+  pub ways_empty : (c : ℕ) (ws : List ℕ) (d : ℕ) (inner : List ℕ) → root_in ws ≡ 0 → Ways L c ws d inner 0 (Ok None)
   ways_empty c ws d inner e = record {
     shallow = omega arith;
     usable = λ k l. absurd (omega arith);

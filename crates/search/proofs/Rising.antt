@@ -54,7 +54,8 @@ module _ {P : Type 0} (L : Layout P) where
     pub good : Good L.rules.width (bare t)
     pub beside : WayHeld c ws w
 
-  pub part_held : (c : ℕ) (ws : List ℕ) (link : ℕ) (w : List (Step ℕ (Seat P))) (t : Seated P) → Holds L c ws link (plug w t) → Good L.rules.width (bare (plug w t))
+  pub part_held : (c : ℕ) (ws : List ℕ) (link : ℕ) (w : List (Step ℕ (Seat P))) (t : Seated P) → Holds L c ws link (plug w t)
+      → Good L.rules.width (bare (plug w t))
       → PartHeld c ws w t
   part_held c ws link [] t h g = record { link = link; there = h; good = g; beside = tt }
   part_held c ws link (went_left n b r ∷ w) t h g =
@@ -100,7 +101,8 @@ module _ {P : Type 0} (L : Layout P) where
         pub beside : WayHeld c ws (step ∷ above)
         pub sum : F w ≡ F (step ∷ above)
 
-      pub rise_at : (w : List (Step ℕ (Seat P))) (level : ℕ) → Kept inner w → Follows L.rules.width d w → WayHeld c ws w → level < length w → Takes L c ws d x (get_or inner level 0)
+      pub rise_at : (w : List (Step ℕ (Seat P))) (level : ℕ) → Kept inner w → Follows L.rules.width d w → WayHeld c ws w → level < length w
+          → Takes L c ws d x (get_or inner level 0)
           → ((m : ℕ) → level < m → m < length w → Takes L c ws d x (get_or inner m 0) → ⊥) → Risen w level
       rise_at [] level k f h l g n = absurd (omega arith)
       rise_at (s ∷ w) level k f h l g n =

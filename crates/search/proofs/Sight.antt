@@ -4,6 +4,7 @@ use mathlib.Core.Path.{◌≡◌, sym, ap, subst, ◌∙◌}
 use mathlib.Core.List.{List, [], ◌∷◌}
 use mathlib.Core.Logic.{⊎_elim}
 use native.Mathlib.Omega.{arith}
+use Rattle.std.specs.Prelude.{Option, Some, None}
 use Rattle.bits.proofs.Cases.{eq_or_ne}
 use Rattle.patricia.specs.Good.{Good}
 use Rattle.patricia.specs.Tree.{leaf, node}
@@ -12,17 +13,17 @@ use Rattle.pool.specs.Layout.{Layout, mark_at}
 use Rattle.pool.specs.Link.{link_from, to_route, to_inner}
 use Rattle.pool.specs.Holds.{Seated, bare, Holds}
 use Rattle.pool.specs.declared.link.Link.{Link}
-use Rattle.pool.specs.declared.link.Link.TheVariants.{Nothing, Route, Inner}
+use Rattle.pool.specs.declared.link.Link.TheVariants.{Route, Inner}
 use Rattle.pool.proofs.Words.{link_nothing, link_odd, link_even}
 use Rattle.search.specs.Seen.{Starts}
 
 -- ---- links
 
 -- what a link is read as, as the code tells it
-abbrev Says : ℕ → Link → Type 0
-Says w Nothing = w ≡ 0
-Says w (Route p) = w ≡ to_route p.0
-Says w (Inner p) = w ≡ to_inner p.0
+abbrev Says : ℕ → Option Link → Type 0
+Says w None = w ≡ 0
+Says w (Some (Route p)) = w ≡ to_route p.0
+Says w (Some (Inner p)) = w ≡ to_inner p.0
 
 reads : (w : ℕ) → Says w (link_from w)
 reads w = ⊎_elim (λ e. subst (Says w) (sym (link_nothing w e)) e) (λ n. ⊎_elim (odd n) (even n) (eq_or_ne (w % 2) 1)) (eq_or_ne w 0)
@@ -34,7 +35,7 @@ reads w = ⊎_elim (λ e. subst (Says w) (sym (link_nothing w e)) e) (λ n. ⊎_
     even n e = let h : w ≡ to_inner (w / 2 - 1) = omega arith in subst (Says w) (sym (link_even w n e)) h
 
 -- the link that was read, from the variant that it was taken for
-pub read_as : (w : ℕ) (x y : Link) → x ≡ link_from w → x ≡ y → Says w y
+pub read_as : (w : ℕ) (x y : Option Link) → x ≡ link_from w → x ≡ y → Says w y
 read_as w x y e f = subst (Says w) (sym e ∙ f) (reads w)
 
 -- ---- the side that a bit takes

@@ -1,5 +1,5 @@
 -- What the way down promises.
-use Rattle.std.specs.Prelude.{ℕ, ◌≤◌, ◌<◌, ◌≡◌, List, [], ◌∷◌, length, get_or}
+use Rattle.std.specs.Prelude.{ℕ, ◌≤◌, ◌<◌, ◌≡◌, List, [], ◌∷◌, length, get_or, Option, Some, None, Result, Ok, Err}
 use Rattle.patricia.specs.Good.{Good}
 use Rattle.patricia.specs.Tree.{Entry, leaf}
 use Rattle.patricia.specs.Way.{depth, Step, went_left, went_right, plug, Follows}
@@ -7,8 +7,7 @@ use Rattle.pool.specs.Layout.{root_in, Layout, mark_at}
 use Rattle.pool.specs.Link.{to_route}
 use Rattle.pool.specs.Holds.{Seat, Seated, bare, Chain, Holds}
 use Rattle.pool.specs.declared.link.Place.{Place}
-use Rattle.search.specs.declared.descent.End.{End}
-use Rattle.search.specs.declared.descent.End.TheVariants.{Leaf, Empty, Damaged}
+use Rattle.pool.specs.declared.damage.Damage.{Damage}
 
 module _ {P : Type 0} where
   -- The places of a way are kept in the array, from the root down: its first step, the deepest, is the last of them.
@@ -17,15 +16,19 @@ module _ {P : Type 0} where
   Kept inner (went_left n b r ∷ w) = (get_or inner (length w) 0 ≡ n) × Kept inner w
   Kept inner (went_right n b l ∷ w) = (get_or inner (length w) 0 ≡ n) × Kept inner w
 
+-- Where a way ends: at a leaf's first route; nowhere, since the pool has no route; or where the words are no tree.
+abbrev pub End : Type 0
+End = Result (Option Place) Damage
+
 -- The way ends at this place.
 abbrev pub EndsAt : End → Place → Type 0
-EndsAt e p = e ≡ Leaf p
+EndsAt e p = e ≡ Ok (Some p)
 
 -- The place at a way's end is in the pool.
 abbrev pub EndInPool : ℕ → End → Type 0
-EndInPool c (Leaf p) = p.0 < c
-EndInPool c Empty = Unit {0}
-EndInPool c Damaged = Unit {0}
+EndInPool c (Ok (Some p)) = p.0 < c
+EndInPool c (Ok None) = Unit {0}
+EndInPool c (Err d) = Unit {0}
 
 module _ {P : Type 0} (L : Layout P) where
   -- The way down to a leaf of a tree that the words hold.
@@ -49,7 +52,7 @@ module _ {P : Type 0} (L : Layout P) where
     -- the places of the steps are in the array
     pub places : Kept inner way
     -- the end is the leaf's first route
-    pub ends : end ≡ Leaf (record { 0 = entry.payload.place })
+    pub ends : end ≡ Ok (Some (record { 0 = entry.payload.place }))
     -- and from there the leaf's routes hang in the pool
     pub hangs : Chain L c ws address (to_route entry.payload.place) (entry ∷ rest)
 
@@ -72,6 +75,6 @@ module _ {P : Type 0} (L : Layout P) where
     -- the place at the end is in the pool
     pub end_in_pool : EndInPool c end
     -- no root, no way
-    pub empty : root_in ws ≡ 0 → end ≡ Empty
+    pub empty : root_in ws ≡ 0 → end ≡ Ok None
     -- a tree, and the way to its leaf
     pub leads : (t : Seated P) → Holds L c ws (root_in ws) t → Good L.rules.width (bare t) → Led c ws d inner n end t

@@ -7,43 +7,41 @@ ghost use Rattle.pool.specs.Fit.{Fit};
 ghost use Rattle.search.specs.Seen.{SeenRight};
 ghost use Rattle.search.specs.Down.{Ways};
 
-use pool::{Link, Place};
+use pool::{Damage, Link, Place};
 use route::Prefix;
 
 // What stands at a link of the tree: a leaf's first route, or an inner place and its bit.
-#[derive(Clone, Copy)]
+#[derive(Clone, Copy, PartialEq, Eq)]
 pub enum Seen {
     Leaf(Place),
     Inner(Place, u32),
-    Damaged,
 }
 
 // What stands at a link, where no bit below the lowest may be tested.
-pub fn see(pool: &[u32], capacity: usize, link: u32, lowest: u32) -> Seen
+pub fn see(pool: &[u32], capacity: usize, link: u32, lowest: u32) -> Result<Seen, Damage>
     requires { Fit ipv4 capacity pool.now }
     ensures { SeenRight ipv4 capacity pool.now link lowest result }
 {
-    match pool::link_from(link) {
-        Link::Nothing => Seen::Damaged,
+    match pool::link_from(link).ok_or(Damage)? {
         Link::Route(place) => {
             if place.0 < capacity {
-                Seen::Leaf(place)
+                Ok(Seen::Leaf(place))
             } else {
-                Seen::Damaged
+                Err(Damage)
             }
         }
         Link::Inner(place) => {
             if capacity <= place.0 {
-                return Seen::Damaged;
+                return Err(Damage);
             }
             let mark = pool::mark_at(pool, capacity, place);
             if mark <= lowest {
-                return Seen::Damaged;
+                return Err(Damage);
             }
             if Prefix::WIDTH < mark {
-                return Seen::Damaged;
+                return Err(Damage);
             }
-            Seen::Inner(place, mark - 1)
+            Ok(Seen::Inner(place, mark - 1))
         }
     }
 }
@@ -61,23 +59,16 @@ pub fn side_at(pool: &[u32], capacity: usize, place: Place, index: u32, destinat
     }
 }
 
-// Where a way ends: at a leaf's first route; nowhere, since the pool has no route; or where the words are no tree.
-#[derive(Clone, Copy)]
-pub enum End {
-    Leaf(Place),
-    Empty,
-    Damaged,
-}
-
 // The inner places of a way, from the root down: at most one for each bit.
 pub type Steps = [usize; 32];
 
-// The inner places passed, and where it ended.
+// The inner places passed, and where the way ended: at a leaf's first route; nowhere, since the pool has no route; or where the words are
+// no tree.
 #[derive(Clone, Copy)]
 pub struct Way {
     pub inner: Steps,
     pub depth: usize,
-    pub end: End,
+    pub end: Result<Option<Place>, Damage>,
 }
 
 // Down from the root by the destination's bits.
@@ -93,19 +84,19 @@ pub fn down(pool: &[u32], capacity: usize, destination: u32) -> Way
         return Way {
             inner,
             depth,
-            end: End::Empty,
+            end: Ok(None),
         };
     }
     let end = loop {
         match see(pool, capacity, link, lowest) {
-            Seen::Leaf(place) => break End::Leaf(place),
-            Seen::Inner(place, index) => {
+            Ok(Seen::Leaf(place)) => break Ok(Some(place)),
+            Ok(Seen::Inner(place, index)) => {
                 inner[depth] = place.0;
                 depth += 1;
                 lowest = index + 1;
                 link = side_at(pool, capacity, place, index, destination);
             }
-            Seen::Damaged => break End::Damaged,
+            Err(damage) => break Err(damage),
         }
     };
     Way { inner, depth, end }

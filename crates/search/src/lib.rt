@@ -7,6 +7,6 @@ mod descent;
 mod edge;
 mod exact;
 
-pub use descent::{End, Seen, Steps, Way, down, see};
-pub use edge::{Edge, Rise, ascend, leftmost};
-pub use exact::{Hung, Spot, Wanted, along, find, follow};
+pub use descent::{Seen, Steps, Way, down, see};
+pub use edge::{Side, ascend, leftmost};
+pub use exact::{along, find, follow};

@@ -27,7 +27,7 @@ use Rattle.shape.specs.Chain.{LeafFine}
 use Rattle.search.specs.Seen.{Starts}
 use Rattle.shape.specs.Tree.{TreeFine, Spans, Counted, TreeSays, JoinFine, JoinSays, RootFine}
 use Rattle.shape.specs.declared.tree.Span.{Span}
-use Rattle.shape.specs.declared.tree.TreeAudit.{TreeAudit}
+use Rattle.std.specs.Prelude.{Option, Some, None}
 
 module _ {P : Type 0} (L : Layout P) where
   -- ---- lists
@@ -248,9 +248,9 @@ module _ {P : Type 0} (L : Layout P) where
     module _ (ls rs : Span)
         (x : (t : Seated P) × TreeFine L c ws left mark t × Spans ls.least ls.greatest (bare t) × Counted ls.routes ls.inners t)
         (y : (t : Seated P) × TreeFine L c ws right mark t × Spans rs.least rs.greatest (bare t) × Counted rs.routes rs.inners t) where
-      pub joined : j < c → low < mark → mark ≤ L.rules.width → (a : TreeAudit) → JoinSays L mark ls rs a → TreeSays L c ws link low a
-      joined h k m TreeAudit.Bad n = join_bad _ _ _ _ _ _ _ _ x y n
-      joined h k m (TreeAudit.Fine q) ((v, f), least, greatest, n, i) =
+      pub joined : j < c → low < mark → mark ≤ L.rules.width → (a : Option Span) → JoinSays L mark ls rs a → TreeSays L c ws link low a
+      joined h k m None n = join_bad _ _ _ _ _ _ _ _ x y n
+      joined h k m (Some q) ((v, f), least, greatest, n, i) =
           let (t, g, sp, w) = join_fine _ _ _ _ _ _ _ _ x y h k m v f in (
             t,
             g,

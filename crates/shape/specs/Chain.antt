@@ -1,5 +1,5 @@
 -- What is tested of one route, and of the routes of one address.
-use Rattle.std.specs.Prelude.{ℕ, ◌≤◌, ◌<◌, ◌≡◌, List, length}
+use Rattle.std.specs.Prelude.{ℕ, ◌≤◌, ◌<◌, ◌≡◌, List, length, Option, Some, None}
 use Rattle.model.specs.Lawful.{Obeys, AllObey}
 use Rattle.patricia.specs.Tree.{Entry, hung}
 use Rattle.patricia.specs.Obeys.{LeafObeys}
@@ -7,7 +7,7 @@ use Rattle.pool.specs.Layout.{Layout, kind_at, held_prefix, held_payload, next_a
 use Rattle.pool.specs.Link.{to_route}
 use Rattle.pool.specs.Holds.{Seat, bare_entries, Chain}
 use Rattle.shape.specs.declared.chain.Hung.{Hung}
-use Rattle.shape.specs.declared.chain.ChainAudit.{ChainAudit}
+use Rattle.shape.specs.declared.chain.Chain as code
 
 module _ {P : Type 0} (L : Layout P) where
   -- The address in route place i.
@@ -33,9 +33,9 @@ module _ {P : Type 0} (L : Layout P) where
     pub shorter : length_at ws i < bound
 
   -- What is answered of one link of a leaf.
-  abbrev pub HungSays : ℕ → List ℕ → ℕ → ℕ → ℕ → Hung → Type 0
-  HungSays c ws link a bound Hung.Bad = (i : ℕ) → HungFine c ws link a bound i → ⊥
-  HungSays c ws link a bound (Hung.Next l n) = (i : ℕ) × HungFine c ws link a bound i × (l ≡ next_at L ws i) × (n.0 ≡ length_at ws i)
+  abbrev pub HungSays : ℕ → List ℕ → ℕ → ℕ → ℕ → Option Hung → Type 0
+  HungSays c ws link a bound None = (i : ℕ) → HungFine c ws link a bound i → ⊥
+  HungSays c ws link a bound (Some h) = (i : ℕ) × HungFine c ws link a bound i × (h.link ≡ next_at L ws i) × (h.bound.0 ≡ length_at ws i)
 
   -- From the link on hang routes of one address, as a leaf's do.
   pub record LeafFine (c : ℕ) (ws : List ℕ) (link a : ℕ) (es : List (Entry (Seat P))) : Type 0 where
@@ -44,6 +44,6 @@ module _ {P : Type 0} (L : Layout P) where
     pub obey : AllObey L.rules (hung a (bare_entries es))
 
   -- What is answered of the routes of a leaf.
-  abbrev pub ChainSays : ℕ → List ℕ → ℕ → ChainAudit → Type 0
-  ChainSays c ws i ChainAudit.Bad = (a : ℕ) (es : List (Entry (Seat P))) → LeafFine c ws (to_route i) a es → ⊥
-  ChainSays c ws i (ChainAudit.Fine a n) = (es : List (Entry (Seat P))) × LeafFine c ws (to_route i) a es × (n ≡ length es)
+  abbrev pub ChainSays : ℕ → List ℕ → ℕ → Option code.Chain → Type 0
+  ChainSays c ws i None = (a : ℕ) (es : List (Entry (Seat P))) → LeafFine c ws (to_route i) a es → ⊥
+  ChainSays c ws i (Some h) = (es : List (Entry (Seat P))) × LeafFine c ws (to_route i) h.address es × (h.routes ≡ length es)

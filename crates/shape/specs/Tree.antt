@@ -1,5 +1,5 @@
 -- What is tested of the tree at a link.
-use Rattle.std.specs.Prelude.{ℕ, ◌+◌, ◌*◌, ◌≤◌, ◌≡◌, List, length}
+use Rattle.std.specs.Prelude.{ℕ, ◌+◌, ◌*◌, ◌≤◌, ◌≡◌, List, length, Option, Some, None}
 use Rattle.bits.specs.Address.{first}
 use Rattle.model.specs.Lawful.{AllObey}
 use Rattle.patricia.specs.Tree.{Tree, Root, routes, root_routes, Under}
@@ -9,8 +9,7 @@ use Rattle.search.specs.Seen.{Starts}
 use Rattle.pool.specs.Holds.{Seat, Seated, bare, bare_root, route_places, inner_places, Holds, HoldsRoot}
 use Rattle.pool.specs.Means.{routes_used, inners_used}
 use Rattle.shape.specs.declared.tree.Span.{Span}
-use Rattle.shape.specs.declared.tree.TreeAudit.{TreeAudit}
-use Rattle.shape.specs.declared.tree.RootAudit.{RootAudit}
+use Rattle.shape.specs.declared.tree.Uses.{Uses}
 
 module _ {P : Type 0} where
   -- The lowest and the highest address under a tree.
@@ -33,9 +32,9 @@ module _ {P : Type 0} (L : Layout P) where
     pub obey : AllObey L.rules (routes (bare t))
 
   -- What is answered of the tree at a link.
-  abbrev pub TreeSays : ℕ → List ℕ → ℕ → ℕ → TreeAudit → Type 0
-  TreeSays c ws link low TreeAudit.Bad = (t : Seated P) → TreeFine c ws link low t → ⊥
-  TreeSays c ws link low (TreeAudit.Fine s) =
+  abbrev pub TreeSays : ℕ → List ℕ → ℕ → ℕ → Option Span → Type 0
+  TreeSays c ws link low None = (t : Seated P) → TreeFine c ws link low t → ⊥
+  TreeSays c ws link low (Some s) =
       (t : Seated P) × TreeFine c ws link low t × Spans s.least s.greatest (bare t) × Counted s.routes s.inners t
 
   -- Two sides, from l₀ to l₁ and from r₀ to r₁, part at the bit before mark: the left have 0 there and the right 1, and before it all are one.
@@ -46,9 +45,9 @@ module _ {P : Type 0} (L : Layout P) where
     pub right_greatest : first L.rules.width mark r₁ ≡ 2 * v + 1
 
   -- What is answered of two sides under a node.
-  abbrev pub JoinSays : ℕ → Span → Span → TreeAudit → Type 0
-  JoinSays mark l r TreeAudit.Bad = (v : ℕ) → JoinFine mark l.least l.greatest r.least r.greatest v → ⊥
-  JoinSays mark l r (TreeAudit.Fine s) =
+  abbrev pub JoinSays : ℕ → Span → Span → Option Span → Type 0
+  JoinSays mark l r None = (v : ℕ) → JoinFine mark l.least l.greatest r.least r.greatest v → ⊥
+  JoinSays mark l r (Some s) =
       ((v : ℕ) × JoinFine mark l.least l.greatest r.least r.greatest v)
       × (s.least ≡ l.least) × (s.greatest ≡ r.greatest) × (s.routes ≡ l.routes + r.routes) × (s.inners ≡ 1 + (l.inners + r.inners))
 
@@ -59,6 +58,6 @@ module _ {P : Type 0} (L : Layout P) where
     pub obey : AllObey L.rules (root_routes (bare_root t))
 
   -- What is answered of the whole tree.
-  abbrev pub RootSays : ℕ → List ℕ → RootAudit → Type 0
-  RootSays c ws RootAudit.Bad = (t : Root ℕ (Seat P)) → RootFine c ws t → ⊥
-  RootSays c ws (RootAudit.Fine n m) = (t : Root ℕ (Seat P)) × RootFine c ws t × (n ≡ length (routes_used t)) × (m ≡ length (inners_used t))
+  abbrev pub RootSays : ℕ → List ℕ → Option Uses → Type 0
+  RootSays c ws None = (t : Root ℕ (Seat P)) → RootFine c ws t → ⊥
+  RootSays c ws (Some u) = (t : Root ℕ (Seat P)) × RootFine c ws t × (u.routes ≡ length (routes_used t)) × (u.inners ≡ length (inners_used t))

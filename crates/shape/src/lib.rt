@@ -4,4 +4,4 @@
 mod chain;
 mod tree;
 
-pub use tree::{RootAudit, audit_root};
+pub use tree::{Uses, audit_root};

@@ -1,3 +1,4 @@
+pub mod Actions
 pub mod Recording
 pub mod Undoing
 pub mod Turning

@@ -11,6 +11,7 @@ use native.Mathlib.Omega.{arith}
 use borrow.Author.Tests.{ne_eqb}
 use lib.Dec.{eqb}
 use lib.ListN.{length}
+use Rattle.std.specs.Prelude.{Some, None}
 use Rattle.bits.proofs.Cases.{eq_or_ne}
 use Rattle.model.specs.Prefix.{Prefix, same}
 use Rattle.model.specs.Routes.{Route, InOrder, find, holds}
@@ -22,11 +23,9 @@ use Rattle.patricia.proofs.Form.{routes_in_order, obeys_good, root_obeys_good}
 use Rattle.pool.specs.Layout.{Layout, action_at, changed_at, old_at, new_at}
 use Rattle.pool.specs.Holds.{Seat, bare, bare_root}
 use Rattle.pool.specs.Means.{routes_used}
-use Rattle.search.specs.Find.{is_at, Finds}
-use Rattle.search.specs.declared.exact.Spot.{Spot}
+use Rattle.search.specs.Find.{Spot, is_at, Finds}
 use Rattle.search.proofs.Spots.{root_spotted, spotted_present}
 use Rattle.standing.specs.Changes.{change_from, change_at, decoded, Tabled, back, Took, at_turn, ThereSays, TakenSays}
-use Rattle.standing.specs.declared.changes.Taken.{Taken}
 use Rattle.standing.proofs.Recording.{change_is}
 use Rattle.model.proofs.Lawful.{undo_order}
 use Rattle.standing.proofs.Undoing.{prefix_of, leaves, undo_other, undo_same, undo_add_length, undo_delete_length, undo_change_length}
@@ -136,46 +135,46 @@ module _ {P : Type 0} (L : Layout P) (c : ℕ) (ws : List ℕ) where
   module _ (n k held : ℕ) (there : Bool) (says : ThereSays L c ws n k there) where
     -- whether its prefix must be there
     needs : (b : Bool) (x : Change P) → change_at L c ws k ≡ x → ((m : List (Route P)) → CanUndo x m → holds (changed_at L c ws k) m ≡ b)
-        → there ≡ not b → TakenSays L c ws n k held Taken.Bad
+        → there ≡ not b → TakenSays L c ws n k held None
     needs true x e f g l t w m u h = true≢false (sym (says l t w ∙ f (at_turn L c ws n k l) (subst (λ (y : Change P). CanUndo y (at_turn L c ws n k l)) e u)) ∙ g)
     needs false x e f g l t w m u h = true≢false (sym g ∙ says l t w ∙ f (at_turn L c ws n k l) (subst (λ (y : Change P). CanUndo y (at_turn L c ws n k l)) e u))
 
     -- how many are left
     left : (m : ℕ) (x : Change P) → change_at L c ws k ≡ x → m ≤ c
         → ((l : List (Route P)) → InOrder l → there ≡ holds (changed_at L c ws k) l → held ≡ length l → CanUndo x l × (m ≡ length (undo x l)))
-        → TakenSays L c ws n k held (Taken.Held m)
+        → TakenSays L c ws n k held (Some m)
     left m x e h f = (
       h,
       λ l t w q. subst (λ (y : Change P). CanUndo y (at_turn L c ws n k l) × (m ≡ length (undo y (at_turn L c ws n k l)))) (sym e)
           (f (at_turn L c ws n k l) (back_order (n - suc k) (suc k) l (tabled_order l t) w) (says l t w) q),
     )
 
-    pub delete_there : action_at L c ws k ≡ 2 → there ≡ true → TakenSays L c ws n k held Taken.Bad
+    pub delete_there : action_at L c ws k ≡ 2 → there ≡ true → TakenSays L c ws n k held None
     delete_there a g = needs false _ (change_is L c ws k 2 a) (λ m u. u) g
 
-    pub delete_full : action_at L c ws k ≡ 2 → c ≤ held → TakenSays L c ws n k held Taken.Bad
+    pub delete_full : action_at L c ws k ≡ 2 → c ≤ held → TakenSays L c ws n k held None
     delete_full a h l t w m u q =
         let e = ap (λ (y : Change P). length (undo y (at_turn L c ws n k l))) (change_is L c ws k 2 a) in
         omega (arith, q, e, undo_delete_length (record { prefix = changed_at L c ws k; payload = old_at L c ws k }) (at_turn L c ws n k l), m, h)
 
-    pub delete_held : action_at L c ws k ≡ 2 → there ≡ false → held < c → TakenSays L c ws n k held (Taken.Held (held + 1))
+    pub delete_held : action_at L c ws k ≡ 2 → there ≡ false → held < c → TakenSays L c ws n k held (Some (held + 1))
     delete_held a g h =
         left (held + 1) _ (change_is L c ws k 2 a) (omega arith)
         (λ l o e q. (sym e ∙ g, omega (arith, q, undo_delete_length (record { prefix = changed_at L c ws k; payload = old_at L c ws k }) l)))
 
-    pub gone : (action_at L c ws k ≡ 2 → ⊥) → there ≡ false → TakenSays L c ws n k held Taken.Bad
+    pub gone : (action_at L c ws k ≡ 2 → ⊥) → there ≡ false → TakenSays L c ws n k held None
     gone a g = ⊎_elim (λ e. needs true _ (change_is L c ws k 1 e) (λ m u. u) g) (λ e. needs true _ (changed_is k e a) (λ m u. u) g) (eq_or_ne (action_at L c ws k) 1)
 
-    pub change_held : (action_at L c ws k ≡ 2 → ⊥) → (action_at L c ws k ≡ 1 → ⊥) → there ≡ true → held ≤ c → TakenSays L c ws n k held (Taken.Held held)
+    pub change_held : (action_at L c ws k ≡ 2 → ⊥) → (action_at L c ws k ≡ 1 → ⊥) → there ≡ true → held ≤ c → TakenSays L c ws n k held (Some held)
     change_held a b g h =
         left held _ (changed_is k b a) h (λ l o e q. (sym e ∙ g, q ∙ sym (undo_change_length (changed_at L c ws k) _ (new_at L c ws k) l o (sym e ∙ g))))
 
-    pub add_none : action_at L c ws k ≡ 1 → held ≡ 0 → TakenSays L c ws n k held Taken.Bad
+    pub add_none : action_at L c ws k ≡ 1 → held ≡ 0 → TakenSays L c ws n k held None
     add_none a z l t w m u q =
         let v = subst (λ (y : Change P). CanUndo y (at_turn L c ws n k l)) (change_is L c ws k 1 a) u in
         omega (arith, undo_add_length (record { prefix = changed_at L c ws k; payload = new_at L c ws k }) (at_turn L c ws n k l) v, m, z)
 
-    pub add_held : action_at L c ws k ≡ 1 → there ≡ true → (held ≡ 0 → ⊥) → held ≤ c → TakenSays L c ws n k held (Taken.Held (held - 1))
+    pub add_held : action_at L c ws k ≡ 1 → there ≡ true → (held ≡ 0 → ⊥) → held ≤ c → TakenSays L c ws n k held (Some (held - 1))
     add_held a g z h =
         left (held - 1) _ (change_is L c ws k 1 a) (omega arith)
         (λ l o e q. (sym e ∙ g, omega (arith, q, undo_add_length (record { prefix = changed_at L c ws k; payload = new_at L c ws k }) l (sym e ∙ g))))
@@ -208,7 +207,7 @@ module _ {P : Type 0} (L : Layout P) (c : ℕ) (ws : List ℕ) where
   standing_start n held l e = at_standing n 0 n held l (omega arith) (record { took = tt; count = e; forth = λ u. u; onward = λ u. u })
 
   -- one more taken back
-  pub standing_step : (n k held m : ℕ) (l : List (Route P)) → suc k ≤ n → Tabled L c ws l → TakenSays L c ws n k held (Taken.Held m) → Standing n (suc k) held l → Standing n k m l
+  pub standing_step : (n k held m : ℕ) (l : List (Route P)) → suc k ≤ n → Tabled L c ws l → TakenSays L c ws n k held (Some m) → Standing n (suc k) held l → Standing n k m l
   standing_step n k held m l h t (fits, f) s =
       let w = f l t s.took s.count in
       at_standing n (suc (n - suc k)) k m l (omega arith) (record {
@@ -219,7 +218,7 @@ module _ {P : Type 0} (L : Layout P) (c : ℕ) (ws : List ℕ) where
       })
 
   -- a change that can't be taken back
-  pub standing_stop : (n k held : ℕ) (l : List (Route P)) → Tabled L c ws l → TakenSays L c ws n k held Taken.Bad → Standing n (suc k) held l → Undoable c (decoded L c ws n) l → ⊥
+  pub standing_stop : (n k held : ℕ) (l : List (Route P)) → Tabled L c ws l → TakenSays L c ws n k held None → Standing n (suc k) held l → Undoable c (decoded L c ws n) l → ⊥
   standing_stop n k held l t f s u = let w = s.onward u in f l t s.took s.count w.0 w.1
 
   -- none left

@@ -1,5 +1,5 @@
 -- What is tested of the changes that stand.
-use Rattle.std.specs.Prelude.{ℕ, zero, suc, ◌-◌, ◌≤◌, ◌<◌, ◌≡◌, Bool, true, List, [], ◌∷◌, ◌↔◌, length}
+use Rattle.std.specs.Prelude.{ℕ, zero, suc, ◌-◌, ◌≤◌, ◌<◌, ◌≡◌, Bool, true, List, [], ◌∷◌, ◌↔◌, length, Option, Some, None}
 use Rattle.model.specs.Prefix.{Prefix}
 use Rattle.model.specs.Routes.{Route, holds}
 use Rattle.model.specs.State.{good_payload, Change, added, deleted, changed, undo}
@@ -9,7 +9,6 @@ use Rattle.patricia.specs.Obeys.{RootObeys}
 use Rattle.pool.specs.Layout.{Layout, root_in, action_at, changed_at, old_at, new_at}
 use Rattle.pool.specs.Holds.{Seat, bare_root, HoldsRoot}
 use Rattle.pool.specs.Means.{PayloadThere, Records}
-use Rattle.standing.specs.declared.changes.Taken.{Taken}
 
 -- What a slot records, by its action: 1 add, 2 delete, and any other is read as a change.
 abbrev pub change_from : {P : Type 0} → ℕ → Prefix → P → P → Change P
@@ -68,11 +67,11 @@ module _ {P : Type 0} (L : Layout P) where
   ThereSays c ws n k r = (l : List (Route P)) → Tabled c ws l → Took c ws (n - suc k) (suc k) l → r ≡ holds (changed_at L c ws k) (at_turn c ws n k l)
 
   -- Change k taken back, from so many routes.
-  abbrev pub TakenSays : ℕ → List ℕ → ℕ → ℕ → ℕ → Taken → Type 0
-  TakenSays c ws n k held Taken.Bad =
+  abbrev pub TakenSays : ℕ → List ℕ → ℕ → ℕ → ℕ → Option ℕ → Type 0
+  TakenSays c ws n k held None =
       (l : List (Route P)) → Tabled c ws l → Took c ws (n - suc k) (suc k) l → held ≡ length (at_turn c ws n k l)
       → CanUndo (change_at c ws k) (at_turn c ws n k l) → length (undo (change_at c ws k) (at_turn c ws n k l)) ≤ c → ⊥
-  TakenSays c ws n k held (Taken.Held m) = (m ≤ c)
+  TakenSays c ws n k held (Some m) = (m ≤ c)
       × ((l : List (Route P)) → Tabled c ws l → Took c ws (n - suc k) (suc k) l → held ≡ length (at_turn c ws n k l)
       → CanUndo (change_at c ws k) (at_turn c ws n k l) × (m ≡ length (undo (change_at c ws k) (at_turn c ws n k l))))
 

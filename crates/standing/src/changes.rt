@@ -4,22 +4,14 @@ ghost use Rattle.pool.specs.Ipv4.{ipv4};
 ghost use Rattle.pool.specs.Fit.{Fit};
 ghost use Rattle.standing.specs.Changes.{PayloadFine, ChangeFine, ChangesFine, ThereSays, TakenSays, BackSays};
 
-// A change taken back: not possible, or so many routes are left.
-#[derive(Clone, Copy)]
-pub enum Taken {
-    Bad,
-    Held(usize),
-}
+use pool::Action;
 
 // Whether the words here are a payload that the table may hold.
 fn payload_is_good(pool: &[u32], at: usize) -> bool
     requires { at + 4 < length pool.now }
     ensures { (p : Prefix) → (result ≡ true) ↔ PayloadFine ipv4 pool.now p at }
 {
-    if !pool::payload_there(pool, at) {
-        return false;
-    }
-    pool::payload_at(pool, at).is_good()
+    pool::payload_there(pool, at) && pool::payload_at(pool, at).is_good()
 }
 
 // Whether a slot records a change whose prefix and payloads the table may hold. A payload that its action does not use is not looked at.
@@ -29,27 +21,18 @@ fn change_is_good(pool: &[u32], capacity: usize, change: usize) -> bool
     ensures { (result ≡ true) ↔ ChangeFine ipv4 capacity pool.now change }
 {
     let at = pool::slot(capacity, change);
-    let action = pool[at];
     let prefix = pool::prefix_at(pool, at + pool::CHANGED_OFFSET);
-    if !prefix.well_formed() {
+    if !prefix.well_formed() || !prefix.may_be_held() {
         return false;
     }
-    if !prefix.may_be_held() {
-        return false;
+    let old = at + pool::OLD_OFFSET;
+    let new = at + pool::NEW_OFFSET;
+    match Action::from_word(pool[at]) {
+        Some(Action::Added) => payload_is_good(pool, new),
+        Some(Action::Deleted) => payload_is_good(pool, old),
+        Some(Action::Changed) => payload_is_good(pool, old) && payload_is_good(pool, new),
+        None => false,
     }
-    if action == 1 {
-        return payload_is_good(pool, at + pool::NEW_OFFSET);
-    }
-    if action == 2 {
-        return payload_is_good(pool, at + pool::OLD_OFFSET);
-    }
-    if action != 3 {
-        return false;
-    }
-    if !payload_is_good(pool, at + pool::OLD_OFFSET) {
-        return false;
-    }
-    payload_is_good(pool, at + pool::NEW_OFFSET)
 }
 
 // Whether all standing changes are good.
@@ -58,12 +41,10 @@ pub fn changes_are_good(pool: &[u32], capacity: usize, standing: usize) -> bool
     requires standing_bound { standing ≤ 64 }
     ensures { (result ≡ true) ↔ ChangesFine ipv4 capacity pool.now standing }
 {
-    let mut k: usize = 0;
-    while k < standing {
-        if !change_is_good(pool, capacity, k) {
+    for change in 0..standing {
+        if !change_is_good(pool, capacity, change) {
             return false;
         }
-        k += 1;
     }
     true
 }
@@ -75,48 +56,53 @@ fn is_there(pool: &[u32], capacity: usize, standing: usize, change: usize) -> bo
     requires standing_bound { (standing ≤ 64) × (change < standing) }
     ensures { ThereSays ipv4 capacity pool.now standing change result }
 {
-    let prefix = pool::prefix_at(pool, pool::slot(capacity, change) + 1);
-    let mut newer = change + 1;
-    while newer < standing {
+    let prefix = pool::prefix_at(pool, pool::slot(capacity, change) + pool::CHANGED_OFFSET);
+    for newer in change + 1..standing {
         let at = pool::slot(capacity, newer);
         let other = pool::prefix_at(pool, at + pool::CHANGED_OFFSET);
         if prefix.is(other) {
-            return pool[at] != 1;
+            return pool[at] != Action::Added.word();
         }
-        newer += 1;
     }
-    search::find(pool, capacity, prefix).is_at()
+    matches!(search::find(pool, capacity, prefix), Ok(Some(_)))
 }
 
-// One change taken back: an add or a hop change needs its prefix there, a delete needs it absent and room for one more.
-fn take_back(pool: &[u32], capacity: usize, standing: usize, change: usize, held: usize) -> Taken
+// How many routes are left when one change is taken back, if it can be: an add or a hop change needs its prefix there, a delete needs it
+// absent and room for one more.
+fn take_back(
+    pool: &[u32],
+    capacity: usize,
+    standing: usize,
+    change: usize,
+    held: usize,
+) -> Option<usize>
     requires fit { Fit ipv4 capacity pool.now }
     requires standing_bound { (standing ≤ 64) × (change < standing) }
     requires held_le_capacity { held ≤ capacity }
     ensures { TakenSays ipv4 capacity pool.now standing change held result }
 {
     let at = pool::slot(capacity, change);
-    let action = pool[at];
     let there = is_there(pool, capacity, standing, change);
-    if action == 2 {
-        if there {
-            return Taken::Bad;
+    match Action::from_word(pool[at]) {
+        Some(Action::Added) => {
+            if !there || held == 0 {
+                return None;
+            }
+            Some(held - 1)
         }
-        if capacity <= held {
-            return Taken::Bad;
+        Some(Action::Deleted) => {
+            if there || capacity <= held {
+                return None;
+            }
+            Some(held + 1)
         }
-        return Taken::Held(held + 1);
+        _ => {
+            if !there {
+                return None;
+            }
+            Some(held)
+        }
     }
-    if !there {
-        return Taken::Bad;
-    }
-    if action != 1 {
-        return Taken::Held(held);
-    }
-    if held == 0 {
-        return Taken::Bad;
-    }
-    Taken::Held(held - 1)
 }
 
 // Whether all standing changes could be taken back one by one, newest first.
@@ -126,14 +112,11 @@ pub fn can_take_back(pool: &[u32], capacity: usize, standing: usize, routes: usi
     ensures { BackSays ipv4 capacity pool.now standing routes result }
 {
     let mut held = routes;
-    let mut left = standing;
-    while 0 < left {
-        let change = left - 1;
-        let Taken::Held(now_held) = take_back(pool, capacity, standing, change, held) else {
+    for change in (0..standing).rev() {
+        let Some(left) = take_back(pool, capacity, standing, change, held) else {
             return false;
         };
-        held = now_held;
-        left = change;
+        held = left;
     }
     true
 }

@@ -1,5 +1,5 @@
 -- Changes taken back: the newest one, and all of them one by one.
-use Prim.Native.Nat.{ℕ, suc, ◌+◌, ◌-◌, ◌≤◌, ◌<◌}
+use Prim.Native.Nat.{ℕ, zero, suc, ◌+◌, ◌-◌, ◌≤◌, ◌<◌}
 use mathlib.Core.Path.{◌≡◌, refl, sym, ap, subst, ◌∙◌}
 use mathlib.Core.Bool.{true≢false}
 use mathlib.Core.List.{List, [], ◌∷◌}
@@ -7,6 +7,7 @@ use mathlib.Core.Option.{some}
 use native.Mathlib.Omega.{arith}
 use borrow.Author.Tests.{ne_eqb}
 use lib.ListN.{length}
+use Rattle.std.specs.Prelude.{Option, Some, None}
 use Rattle.model.specs.Prefix.{Prefix}
 use Rattle.model.specs.Routes.{Route, find, insert, remove, replace}
 use Rattle.model.specs.State.{Change, added, deleted, changed, Trial, closed, opened, State, changes, undo, undo_all}
@@ -16,17 +17,30 @@ use Rattle.model.proofs.Numbers.{Quiet}
 use Rattle.model.proofs.Edits.{length_insert}
 use Rattle.model.proofs.Routes.{there, absent}
 use Rattle.pool.specs.Layout.{word, Layout, standing_in, prefix_at, changed_at, old_at}
+use Rattle.pool.specs.Action.{action_word, action_from}
+use Rattle.pool.specs.declared.action.Action.{Action}
+use Rattle.pool.specs.declared.action.Action.TheVariants.{Added, Deleted, Changed}
 use Rattle.pool.specs.Means.{Records, Recorded, TrialThere, Means}
 use Rattle.pool.proofs.Local.{recorded_length}
-use Rattle.pool.specs.Fit.{Fit}
 use Rattle.pool.specs.Write.{writes}
-use Rattle.pool.proofs.Laid.{Laid, payload_fits, head_in}
+use Rattle.pool.proofs.Laid.{Laid, head_in}
 use Rattle.rows.specs.Writes.{head_writes}
 use Rattle.edit.specs.Encodes.{Encodes, ToPut, ToTake}
 use Rattle.edit.proofs.Encodes.{means_encodes}
 use Rattle.edit.proofs.Trials.{strike_encodes, close_encodes}
 use Rattle.apply.specs.Does.{Accepts, Accepted, Does}
 use Rattle.apply.proofs.Made.{next_done, does_of, lines}
+
+-- a word that is read as an action is that action's
+pub word_is : (w : ℕ) (read : Option Action) (y x : Action) → read ≡ action_from w → read ≡ Some y → y ≡ x → w ≡ action_word x
+word_is w read y x e f g = go w (sym e ∙ f ∙ ap Some g)
+  where
+    go : (n : ℕ) → action_from n ≡ Some x → n ≡ action_word x
+    go zero h = cc h
+    go (suc zero) h = let is : Added ≡ x = cc h in ap action_word is
+    go (suc (suc zero)) h = let is : Deleted ≡ x = cc h in ap action_word is
+    go (suc (suc (suc zero))) h = let is : Changed ≡ x = cc h in ap action_word is
+    go (suc (suc (suc (suc n)))) h = cc h
 
 module _ {P : Type 0} (L : Layout P) where
   -- ---- the newest change
@@ -94,6 +108,15 @@ module _ {P : Type 0} (L : Layout P) where
     prefix : (q : Prefix) → changed_at L c ws (standing_in ws - 1) ≡ q → p ≡ q
     prefix q e = named ∙ ap (λ (i : ℕ). prefix_at L ws (i + 1)) is ∙ e
 
+    -- and the code knows that action
+    pub readable : action_from (word ws at) ≡ None → ⊥
+    readable none = go (newest c ws s a).change (newest c ws s a).records
+      where
+        go : (x : Change P) → Records L c ws (standing_in ws - 1) x → ⊥
+        go (added r) h = cc (rw (action 1 h.0) at none)
+        go (deleted r) h = cc (rw (action 2 h.0) at none)
+        go (changed q old new) h = cc (rw (action 3 h.0) at none)
+
     -- a prefix that the table holds can be taken out
     take_of : (q : Prefix) → p ≡ q → (r : Route P) × (find q s.routes ≡ some r) → ToTake L c ws p s
     take_of q e w = record {
@@ -160,12 +183,12 @@ module _ {P : Type 0} (L : Layout P) where
           go (changed q old new) k = absurd (omega (arith, e, action 3 k.0))
 
       -- a hop change is taken back by the old hop
-      pub change_undone : (zs : List ℕ) → (word ws at ≡ 1 → ⊥) → (word ws at ≡ 2 → ⊥) → Encodes L zs (with_trial s (replace back s.routes) s.trial) → Undone zs s
-      change_undone zs e f h = undone c ws zs s (newest c ws s a) (replace back s.routes) (go (newest c ws s a).change (newest c ws s a).records) h
+      pub change_undone : (zs : List ℕ) → word ws at ≡ 3 → Encodes L zs (with_trial s (replace back s.routes) s.trial) → Undone zs s
+      change_undone zs e h = undone c ws zs s (newest c ws s a) (replace back s.routes) (go (newest c ws s a).change (newest c ws s a).records) h
         where
           go : (x : Change P) → Records L c ws (standing_in ws - 1) x → undo x s.routes ≡ replace back s.routes
-          go (added r) k = absurd (e (action 1 k.0))
-          go (deleted r) k = absurd (f (action 2 k.0))
+          go (added r) k = absurd (omega (arith, e, action 1 k.0))
+          go (deleted r) k = absurd (omega (arith, e, action 2 k.0))
           go (changed q old new) k = ap (λ (z : Route P). replace z s.routes) (sym (same_route (record { prefix = q; payload = old }) (prefix q k.1) (hop old k.3)))
 
   -- ---- its record, before and after it is struck
@@ -234,12 +257,6 @@ module _ {P : Type 0} (L : Layout P) where
           }
 
 module _ {P : Type 0} (L : Layout P) (laid : Laid L) where
-  -- its slot is in the pool, as far as the hop after: what is read of it ends before that
-  pub slot_fits : (c : ℕ) (ws : List ℕ) (at : ℕ) → Fit L c ws → Accepted L c step_back ws → at ≡ L.slot c (standing_in ws - 1) → at + L.new_offset < length ws
-  slot_fits c ws at f a is =
-      let n = newest L c ws a.0 a.1 in
-      omega (arith, f.1, laid.slot_in c (standing_in ws - 1) (omega (arith, n.few, n.stands)), laid.new_fits, payload_fits laid)
-
   -- ---- its record struck
 
   -- a change still stands after it was undone in the table

@@ -6,6 +6,7 @@ ghost use Rattle.pool.specs.Fit.{Fit};
 ghost use Rattle.edit.specs.Encodes.{Encodes};
 ghost use Rattle.apply.specs.Does.{Accepts, Accepted, Does};
 
+use pool::Action;
 use route::Route;
 
 // The newest recorded change undone in the table; its record still stands.
@@ -14,22 +15,18 @@ fn take_back(pool: &mut [u32], capacity: usize)
     requires accepted { Accepted ipv4 capacity call.step_back pool.old }
     ensures { (s : State Payload) → Accepts ipv4 capacity call.step_back pool.old s → Encodes ipv4 pool.new (call.with_trial s (call.stepped_back s s.trial).routes s.trial) }
 {
-    let standing = pool[pool::AT_STANDING];
-    let at = pool::slot(capacity, pool::wide(standing - 1));
-    let action = pool[at];
+    let newest = pool[pool::AT_STANDING] - 1;
+    let at = pool::slot(capacity, newest as usize);
     let prefix = pool::prefix_at(pool, at + pool::CHANGED_OFFSET);
-    let was_added = action == 1;
-    if was_added {
-        edit::take_out(pool, capacity, prefix);
-        return;
-    }
     let payload = pool::payload_at(pool, at + pool::OLD_OFFSET);
-    let was_deleted = action == 2;
-    if was_deleted {
-        edit::put_in(pool, capacity, Route { prefix, payload });
-        return;
+    let action = Action::from_word(pool[at]);
+    match action {
+        Some(Action::Added) => edit::take_out(pool, capacity, prefix),
+        Some(Action::Deleted) => edit::put_in(pool, capacity, Route { prefix, payload }),
+        Some(Action::Changed) => edit::swap(pool, capacity, Route { prefix, payload }),
+        // A sound pool records nothing else.
+        None => {}
     }
-    edit::swap(pool, capacity, Route { prefix, payload });
 }
 
 // Take back the newest recorded change; the trial stays open.
@@ -51,5 +48,5 @@ pub fn back_out(pool: &mut [u32], capacity: usize)
     while pool[pool::AT_STANDING] != 0 {
         step_back(pool, capacity);
     }
-    trial_rows::write_head(pool, 0, 0);
+    trial_rows::write_head(pool, false, 0);
 }

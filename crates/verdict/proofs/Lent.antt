@@ -16,15 +16,15 @@ use Rattle.pool.proofs.Laid.{Laid}
 use Rattle.promise.specs.Table.{Sound}
 use Rattle.promise.specs.Trees.{tree}
 use Rattle.verdict.specs.Own.{OwnRight}
-use Rattle.verdict.specs.declared.Own.TheVariants.{Capacity}
+use Rattle.std.specs.Prelude.{Ok}
 
 module _ {P : Type 0} (L : Layout P) where
   -- the own words of a pool of capacity c are there
-  pub own_in : (ws : List ℕ) (c n : ℕ) → OwnRight (tree L) ws (Capacity c) → n ≡ size L c → n ≤ length ws
+  pub own_in : (ws : List ℕ) (c n : ℕ) → OwnRight (tree L) ws (Ok c) → n ≡ size L c → n ≤ length ws
   own_in ws c n o e = le_trans (le_of_eq e) o.3
 
   -- a sound pool's capacity is in range, and its words are enough
-  pub sound_own : (ws : List ℕ) (c : ℕ) → (s : State P) × Means L ws s × (s.capacity ≡ c) → OwnRight (tree L) ws (Capacity c)
+  pub sound_own : (ws : List ℕ) (c : ℕ) → (s : State P) × Means L ws s × (s.capacity ≡ c) → OwnRight (tree L) ws (Ok c)
   sound_own ws c v = (
     le_trans v.1.lawful.at_least_one (le_of_eq v.2),
     le_trans (le_of_eq (sym v.2)) v.1.lawful.in_range,
@@ -34,19 +34,19 @@ module _ {P : Type 0} (L : Layout P) where
 
 module _ {P : Type 0} (L : Layout P) (laid : Laid L) where
   -- the own words fit the capacity
-  pub own_fits : (ws : List ℕ) (c n : ℕ) → OwnRight (tree L) ws (Capacity c) → n ≡ size L c → Fit L c (take n ws)
+  pub own_fits : (ws : List ℕ) (c n : ℕ) → OwnRight (tree L) ws (Ok c) → n ≡ size L c → Fit L c (take n ws)
   own_fits ws c n o e = (le_trans o.1 laid.limit_small, length-take-le n ws (own_in L ws c n o e) ∙ e)
 
   -- sound in its own words is sound
-  pub own_sound : (ws : List ℕ) (c n : ℕ) → OwnRight (tree L) ws (Capacity c) → n ≡ size L c → (s : State P) → s.capacity ≡ c → Means L (take n ws) s ↔ Means L ws s
+  pub own_sound : (ws : List ℕ) (c n : ℕ) → OwnRight (tree L) ws (Ok c) → n ≡ size L c → (s : State P) → s.capacity ≡ c → Means L (take n ws) s ↔ Means L ws s
   own_sound ws c n o e s f = means_part L laid ws n s (own_in L ws c n o e) (le_of_eq (ap (size L) f ∙ sym e))
 
-  pub tested_sound : (ws : List ℕ) (c n : ℕ) (r : Bool) → OwnRight (tree L) ws (Capacity c) → n ≡ size L c
+  pub tested_sound : (ws : List ℕ) (c n : ℕ) (r : Bool) → OwnRight (tree L) ws (Ok c) → n ≡ size L c
       → (r ≡ true) ↔ ((s : State P) × Means L (take n ws) s × (s.capacity ≡ c)) → r ≡ true
       → (s : State P) × Means L ws s × (s.capacity ≡ c)
   tested_sound ws c n r o e a t = let v = a.0 t in (v.0, (own_sound ws c n o e v.0 v.2).0 v.1, v.2)
 
-  pub tested_unsound : (ws : List ℕ) (c n : ℕ) (r : Bool) → OwnRight (tree L) ws (Capacity c) → n ≡ size L c
+  pub tested_unsound : (ws : List ℕ) (c n : ℕ) (r : Bool) → OwnRight (tree L) ws (Ok c) → n ≡ size L c
       → (r ≡ true) ↔ ((s : State P) × Means L (take n ws) s × (s.capacity ≡ c)) → r ≡ false → Sound (tree L) ws → ⊥
   tested_unsound ws c n r o e a t v =
       let f : v.0.capacity ≡ c = sym v.1.capacity_there ∙ o.2 in

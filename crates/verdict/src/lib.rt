@@ -5,52 +5,39 @@ ghost use Rattle.pool.specs.Ipv4.{ipv4};
 ghost use Rattle.promise.specs.Trees.{tree};
 ghost use Rattle.verdict.specs.Own.{OwnRight, TestedRight};
 
-// The capacity that a pool says, where it is one that a table may have and the words are enough for it.
-#[derive(Clone, Copy)]
-pub enum Own {
-    Capacity(usize),
-    Short,
-}
+use pool::Damage;
 
-// What can be known before a word behind the first is read.
-pub fn own_words(pool: &[u32]) -> Own
+// The capacity that a pool says, where it is one that a table may have and the words are enough for it: what can be known before a word
+// behind the first is read.
+pub fn own_words(pool: &[u32]) -> Result<usize, Damage>
     ensures { OwnRight (tree ipv4) pool.now result }
 {
     if pool.len() == 0 {
-        return Own::Short;
+        return Err(Damage);
     }
     let said = pool[pool::AT_CAPACITY];
     if said == 0 {
-        return Own::Short;
+        return Err(Damage);
     }
     if pool::LIMIT < said {
-        return Own::Short;
+        return Err(Damage);
     }
-    let capacity = pool::wide(said);
+    let capacity = said as usize;
     if pool.len() < pool::size_of(capacity) {
-        return Own::Short;
+        return Err(Damage);
     }
-    Own::Capacity(capacity)
+    Ok(capacity)
 }
 
-// Whether a pool is sound, and its capacity if it is.
-#[derive(Clone, Copy)]
-pub enum Verdict {
-    Sound(usize),
-    NotSound,
-}
-
-// The whole pool is tested before a change, a trial, a walk or the room.
-pub fn tested(pool: &[u32]) -> Verdict
+// The capacity of a pool that is sound. The whole pool is tested before a change, a trial, a walk or the room.
+pub fn tested(pool: &[u32]) -> Result<usize, Damage>
     ensures { TestedRight (tree ipv4) pool.now result }
 {
-    let Own::Capacity(capacity) = own_words(pool) else {
-        return Verdict::NotSound;
-    };
+    let capacity = own_words(pool)?;
     let own = pool::size_of(capacity);
     if audit::audit(&pool[..own], capacity) {
-        Verdict::Sound(capacity)
+        Ok(capacity)
     } else {
-        Verdict::NotSound
+        Err(Damage)
     }
 }

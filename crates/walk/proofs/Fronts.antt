@@ -1,4 +1,5 @@
 -- The first route of a tree: that of its leftmost leaf.
+use Rattle.std.specs.Prelude.{Ok}
 use Prim.Native.Nat.{ℕ}
 use mathlib.Core.Path.{◌≡◌, refl, sym, ap, subst, ◌∙◌}
 use mathlib.Core.List.{List, ◌∷◌}
@@ -21,7 +22,6 @@ use Rattle.search.specs.Down.{Kept}
 use Rattle.search.specs.Says.{Says, Loose}
 use Rattle.search.specs.Edge.{left_leaf, LeftLed, Leftmost}
 use Rattle.walk.specs.Walk.{Fronts, Firsts, RightSide}
-use Rattle.search.specs.declared.edge.Edge as edge
 use Rattle.search.proofs.Bare.{bare_way}
 use Rattle.search.proofs.Chain.{route_there}
 use Rattle.walk.proofs.Around.{first_append, later}
@@ -35,22 +35,16 @@ module _ {P : Type 0} (L : Layout P) where
 
   -- ---- at a link
 
-  pub fronts_leaf : (c : ℕ) (ws : List ℕ) (link : ℕ) (p : Place) (r : Route P) → Leftmost L c ws link (edge.Edge.Leaf p) → r ≡ route_at L ws p.0 → Fronts L c ws link 0 (route r)
+  pub fronts_leaf : (c : ℕ) (ws : List ℕ) (link : ℕ) (p : Place) (r : Route P) → Leftmost L c ws link (Ok p) → r ≡ route_at L ws p.0 → Fronts L c ws link 0 (route r)
   fronts_leaf c ws link p r m e = record { loose = inl refl; exact = λ t h g. go t g (m.leads t h g) }
     where
-      go : (t : Seated P) → Good L.rules.width (bare t) → LeftLed L c ws (edge.Edge.Leaf p) t → Says 0 (route r) 14 (first_of (routes (bare t)))
+      go : (t : Seated P) → Good L.rules.width (bare t) → LeftLed L c ws (Ok p) t → Says 0 (route r) 14 (first_of (routes (bare t)))
       go t g l =
           let f = l.ends in
           let q : ◌≡◌ {A = Place} (record { 0 = l.entry.payload.place }) p = cc in
           let there = route_there L c ws l.address p.0 l.entry l.hangs.1 (ap (λ (x : Place). x.0) q) in
           let one = first_left t g ∙ ap (λ (x : Seated P). first_of (routes (bare x))) l.is in
           subst (Says 0 (route r) 14) (sym one) (refl, ap route (e ∙ there))
-
-  pub fronts_damaged : (c : ℕ) (ws : List ℕ) (link : ℕ) → Leftmost L c ws link edge.Edge.Damaged → Fronts L c ws link 9 nothing
-  fronts_damaged c ws link m = record {
-    loose = inr (inl refl);
-    exact = λ t h g. let l = m.leads t h g in let f = l.ends in let z : ◌≡◌ {A = ℕ} 0 1 = cc in absurd (omega arith);
-  }
 
   -- ---- in the whole pool
 
@@ -60,13 +54,6 @@ module _ {P : Type 0} (L : Layout P) where
       go : (t : Root ℕ (Seat P)) → HoldsRoot L c ws (root_in ws) t → RootGood L.rules.width (bare_root t) → Says {P = P} 14 nothing 14 (first_of (root_routes (bare_root t)))
       go none h g = (refl, refl)
       go (some t) h g = absurd (not_nothing L c ws (root_in ws) t h e)
-
-  pub firsts_front : (c : ℕ) (ws : List ℕ) (n : ℕ) (v : Value P) → (root_in ws ≡ 0 → ⊥) → Fronts L c ws (root_in ws) n v → Firsts L c ws n v
-  firsts_front c ws n v ne s = record { loose = s.loose; exact = go }
-    where
-      go : (t : Root ℕ (Seat P)) → HoldsRoot L c ws (root_in ws) t → RootGood L.rules.width (bare_root t) → Says n v 14 (first_of (root_routes (bare_root t)))
-      go none h g = absurd (ne h)
-      go (some t) h g = s.exact t h g
 
   -- ---- to the right of a way
 

@@ -1,4 +1,5 @@
 -- The next route after a prefix: where its address has a leaf, where it parts from the leaf's that its bits lead to, and in the whole pool.
+use Rattle.std.specs.Prelude.{Some, None, Ok, Err}
 use Prim.Native.Nat.{ℕ, suc, ◌<◌}
 use mathlib.Core.Path.{◌≡◌, refl, sym, ap, subst, ◌∙◌}
 use mathlib.Core.List.{List, ◌∷◌}
@@ -15,24 +16,23 @@ use Rattle.model.specs.Call.{Value, nothing, route}
 use Rattle.model.proofs.Routes.{all_after}
 use Rattle.model.proofs.Walk.{next_front}
 use Rattle.model.proofs.Append.{AllBefore}
-use Rattle.patricia.specs.Good.{All, Good, RootGood}
-use Rattle.patricia.specs.Tree.{Tree, leaf, Root, hung, routes, root_routes}
+use Rattle.patricia.specs.Good.{All, Good}
+use Rattle.patricia.specs.Tree.{Tree, leaf, hung, routes}
 use Rattle.patricia.specs.Way.{Step, plug}
 use Rattle.patricia.proofs.Form.{all_under, held_under, routes_some}
 use Rattle.patricia.proofs.Search.{or_else}
 use Rattle.pool.specs.Layout.{Layout, root_in, held_prefix}
 use Rattle.pool.specs.Fit.{route_at}
 use Rattle.pool.specs.Link.{to_route, to_inner}
-use Rattle.pool.specs.Holds.{Seat, Seated, bare, bare_root, bare_entries, chain_places, Chain, Holds, HoldsRoot}
+use Rattle.pool.specs.Holds.{Seat, Seated, bare, bare_entries, chain_places, Chain, Holds}
 use Rattle.pool.specs.declared.link.Place.{Place}
-use Rattle.search.specs.Down.{EndsAt, Led, Ways}
+use Rattle.pool.specs.declared.damage.Damage.{Damage}
+use Rattle.search.specs.Down.{End, EndsAt, Led, Ways}
 use Rattle.search.specs.Find.{Spotted, seek, SpotIn}
 use Rattle.search.specs.Says.{Says}
-use Rattle.walk.specs.Walk.{Fronts, RightSide, Rejoined, Goes, Nexts}
-use Rattle.search.specs.declared.descent.End as end
-use Rattle.search.specs.declared.exact.Spot.TheVariants.{At, Absent, Damaged}
+use Rattle.walk.specs.Walk.{Fronts, RightSide, Rejoined, Goes}
 use Rattle.search.proofs.Bare.{bare_way, bare_plug}
-use Rattle.search.proofs.Led.{led_not_empty, led_not_damaged, led_chain, led_bare, led_longest}
+use Rattle.search.proofs.Led.{led_chain, led_bare, led_longest}
 use Rattle.search.proofs.Chain.{prefix_there}
 use Rattle.search.proofs.Spots.{seek_next}
 use Rattle.search.proofs.Rising.{PartHeld, part_held}
@@ -43,15 +43,15 @@ use Rattle.walk.proofs.Rejoin.{Named, named_link, rejoins, rejoined_shares}
 module _ {P : Type 0} (L : Layout P) where
   -- ---- what a spot among the leaf's routes makes of the answer
 
-  spot_there : (ws places : List ℕ) (i : Place) (r : Route P) (o m : Option (Route P)) → Spotted L ws places (At i) o → r ≡ route_at L ws i.0 → Says 0 (route r) 14 (or_else o m)
+  spot_there : (ws places : List ℕ) (i : Place) (r : Route P) (o m : Option (Route P)) → Spotted L ws places (Ok (Some i)) o → r ≡ route_at L ws i.0 → Says 0 (route r) 14 (or_else o m)
   spot_there ws places i r none m s e = absurd s
   spot_there ws places i r (some q) m s e = (refl, ap route (e ∙ s.1))
 
-  spot_absent : (ws places : List ℕ) (o m : Option (Route P)) → Spotted L ws places Absent o → or_else o m ≡ m
+  spot_absent : (ws places : List ℕ) (o m : Option (Route P)) → Spotted L ws places (Ok None) o → or_else o m ≡ m
   spot_absent ws places none m s = refl
   spot_absent ws places (some q) m s = absurd s
 
-  module _ (c : ℕ) (ws : List ℕ) (p : Prefix) (inner : List ℕ) (deep : ℕ) (stop : end.End) (i : Place) (ways : Ways L c ws p.address inner deep stop) (e : EndsAt stop i) where
+  module _ (c : ℕ) (ws : List ℕ) (p : Prefix) (inner : List ℕ) (deep : ℕ) (stop : End) (i : Place) (ways : Ways L c ws p.address inner deep stop) (e : EndsAt stop i) where
     -- ---- the leaf that the address's bits lead to
 
     -- the address that is read there is the leaf's
@@ -94,24 +94,24 @@ module _ {P : Type 0} (L : Layout P) where
         → Spotted L ws (chain_places (l.entry ∷ l.rest)) o (own_of t l)
     spotted t g l o s = s.exact l.address (l.entry ∷ l.rest) (led_chain L c ws p.address inner deep stop t l i e) (led_longest L c ws p.address inner deep stop t l g)
 
-    pub goes_hit : (at : Place) (r : Route P) → SpotIn L c ws i.0 (before p) (At at) → r ≡ route_at L ws at.0 → Goes L c ws p i.0 L.rules.width 0 (route r)
+    pub goes_hit : (at : Place) (r : Route P) → SpotIn L c ws i.0 (before p) (Ok (Some at)) → r ≡ route_at L ws at.0 → Goes L c ws p i.0 L.rules.width 0 (route r)
     goes_hit at r s f = record {
       loose = inl refl;
       exact = λ part t h g. let l = ways.leads t h g in
-          subst (Says 0 (route r) 14) (sym (own_next part t g l)) (spot_there ws (chain_places (l.entry ∷ l.rest)) at r (own_of t l) (right_of t l) (spotted t g l (At at) s) f);
+          subst (Says 0 (route r) 14) (sym (own_next part t g l)) (spot_there ws (chain_places (l.entry ∷ l.rest)) at r (own_of t l) (right_of t l) (spotted t g l (Ok (Some at)) s) f);
     }
 
-    pub goes_right : (n : ℕ) (v : Value P) → SpotIn L c ws i.0 (before p) Absent → RightSide L c ws p.address inner deep n v → Goes L c ws p i.0 L.rules.width n v
+    pub goes_right : (n : ℕ) (v : Value P) → SpotIn L c ws i.0 (before p) (Ok None) → RightSide L c ws p.address inner deep n v → Goes L c ws p i.0 L.rules.width n v
     goes_right n v s f = record {
       loose = right_loose L c ws p.address inner deep n v f;
       exact = λ part t h g. let l = ways.leads t h g in
           let held = part_held L c ws (root_in ws) l.way (leaf l.address (l.entry ∷ l.rest)) (whole_held t l h) (whole_good t l g) in
-          subst (Says n v 14) (sym (own_next part t g l ∙ spot_absent ws (chain_places (l.entry ∷ l.rest)) (own_of t l) (right_of t l) (spotted t g l Absent s)))
+          subst (Says n v 14) (sym (own_next part t g l ∙ spot_absent ws (chain_places (l.entry ∷ l.rest)) (own_of t l) (right_of t l) (spotted t g l (Ok None) s)))
           (right_exact L c ws p.address inner deep n v f l.way l.steps l.places l.follows held.beside);
     }
 
-    pub goes_broken : SpotIn L c ws i.0 (before p) Damaged → Goes L c ws p i.0 L.rules.width 9 nothing
-    goes_broken s = record { loose = inr (inl refl); exact = λ part t h g. absurd (spotted t g (ways.leads t h g) Damaged s) }
+    pub goes_broken : {x : Damage} → SpotIn L c ws i.0 (before p) (Err x) → Goes L c ws p i.0 L.rules.width 9 nothing
+    goes_broken s = record { loose = inr (inl refl); exact = λ part t h g. absurd (spotted t g (ways.leads t h g) _ s) }
 
     -- ---- the address parts from the leaf's
 
@@ -216,28 +216,3 @@ module _ {P : Type 0} (L : Layout P) where
             ∙ first_else (routes (bare v.part)) (later (bare_way v.upper)) (routes_some L.rules.width (bare v.part) v.held.good)))
             (f.exact v.part (v.there link w) v.held.good);
       }
-
-  -- ---- in the whole pool
-
-  module _ (c : ℕ) (ws : List ℕ) (p : Prefix) (inner : List ℕ) (deep : ℕ) (stop : end.End) (ways : Ways L c ws p.address inner deep stop) where
-    pub nexts_leaf : (i : Place) (k n : ℕ) (v : Value P) → stop ≡ end.End.Leaf i → Part L.rules.width p.address (held_prefix L ws i.0).address k
-        → Goes L c ws p i.0 k n v → Nexts L c ws p n v
-    nexts_leaf i k n v e split s = record { loose = s.loose; exact = go }
-      where
-        go : (t : Root ℕ (Seat P)) → HoldsRoot L c ws (root_in ws) t → RootGood L.rules.width (bare_root t) → Says n v 14 (next_after p (root_routes (bare_root t)))
-        go none h g = let f = ways.empty h in let z : ◌≡◌ {A = ℕ} 0 1 = cc in absurd (omega arith)
-        go (some t) h g = s.exact split t h g
-
-    pub nexts_empty : stop ≡ end.End.Empty → Nexts L c ws p 14 nothing
-    nexts_empty e = record { loose = inr (inr refl); exact = go }
-      where
-        go : (t : Root ℕ (Seat P)) → HoldsRoot L c ws (root_in ws) t → RootGood L.rules.width (bare_root t) → Says {P = P} 14 nothing 14 (next_after p (root_routes (bare_root t)))
-        go none h g = (refl, refl)
-        go (some t) h g = absurd (led_not_empty L c ws p.address inner deep stop t (ways.leads t h g) e)
-
-    pub nexts_damaged : stop ≡ end.End.Damaged → Nexts L c ws p 9 nothing
-    nexts_damaged e = record { loose = inr (inl refl); exact = go }
-      where
-        go : (t : Root ℕ (Seat P)) → HoldsRoot L c ws (root_in ws) t → RootGood L.rules.width (bare_root t) → Says {P = P} 9 nothing 14 (next_after p (root_routes (bare_root t)))
-        go none h g = let f = ways.empty h in let z : ◌≡◌ {A = ℕ} 0 1 = cc in absurd (omega arith)
-        go (some t) h g = absurd (led_not_damaged L c ws p.address inner deep stop t (ways.leads t h g) e)

@@ -1,5 +1,5 @@
 -- What the walk promises, and what its steps do. An answer is a number and a value.
-use Rattle.std.specs.Prelude.{ℕ, ◌-◌, ◌≤◌, ◌<◌, ◌≡◌, List, ◌⊎◌, get_or}
+use Rattle.std.specs.Prelude.{ℕ, ◌-◌, ◌≤◌, ◌<◌, ◌≡◌, List, ◌⊎◌, get_or, Some, None}
 use Rattle.bits.specs.Address.{Part}
 use Rattle.model.specs.Prefix.{Prefix}
 use Rattle.model.specs.Routes.{first_of, next_after}
@@ -10,7 +10,6 @@ use Rattle.pool.specs.Layout.{Layout, root_in, held_prefix, mark_at, right_at}
 use Rattle.pool.specs.Holds.{Seat, Seated, bare, bare_root, Holds, HoldsRoot}
 use Rattle.search.specs.Says.{Says, Loose}
 use Rattle.search.specs.Edge.{Rises}
-use Rattle.search.specs.declared.edge.Rise.TheVariants.{At, Top}
 
 module _ {P : Type 0} (L : Layout P) where
   -- The first route of what stands at a link.
@@ -30,7 +29,7 @@ module _ {P : Type 0} (L : Layout P) where
   -- The first route of the right side at the deepest of the levels at which the address goes left; none, where it goes left at no level.
   abbrev pub RightSide : ℕ → List ℕ → ℕ → List ℕ → ℕ → ℕ → Value P → Type 0
   RightSide c ws d inner level n v =
-      ((k : ℕ) × Rises L c ws d 0 inner level (At k) × Fronts c ws (right_at L c ws (get_or inner k 0)) n v) ⊎ (Rises L c ws d 0 inner level Top × (n ≡ 14) × (v ≡ nothing))
+      ((k : ℕ) × Rises L c ws d 0 inner level (Some k) × Fronts c ws (right_at L c ws (get_or inner k 0)) n v) ⊎ (Rises L c ws d 0 inner level None × (n ≡ 14) × (v ≡ nothing))
 
   -- The levels below test no bit before bit k, and the one above tests one.
   pub record Rejoined (c : ℕ) (ws : List ℕ) (k : ℕ) (inner : List ℕ) (depth level : ℕ) : Type 0 where

@@ -1,15 +1,9 @@
 -- `bits::mask_length` meets its contract. The machine counts all ones of a number, which are those of its 32 bits.
-use native.Mathlib.Omega.{arith}
 use borrow.Author.Tests.{eq-eqb, ne_eqb}
 use Rattle.bits.specs.Mask.{good_mask, mask_length}
 use Rattle.bits.specs.Answer.{mask_answer}
-use Rattle.bits.proofs.Mask.{ones_all, ones_trailing}
+use Rattle.bits.proofs.Mask.{ones_all}
 use Rattle.bits.proofs.mask_length.Goals as goal
-
-pub overflow_add-is_good : goal.overflow_add-is_good
-overflow_add-is_good c =
-    let m = c.args.mask in
-    omega (arith, ones_all 32 m c.ranges.mask.fits, ones_trailing 32 m)
 
 pub returns-then-is_good : goal.returns-then-is_good
 unfolding mask_answer good_mask mask_length

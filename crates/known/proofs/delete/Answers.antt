@@ -1,42 +1,15 @@
--- `judge_delete` says whether the call may go on. Where it may, the pool's own words are lent to `apply::delete`,
--- and `goes` takes what they become to the promise. Where it may not, the pool stays as it is: `refused_by`.
-use mathlib.Core.Path.{refl, sym, ◌∙◌}
+-- Where `judge_delete` says that the call may go on, the pool's own words are lent to `apply::delete`, which asks that they mean a state
+-- in which it is accepted (`goes_accepted`); `goes` takes what they become to the promise.
+use mathlib.Core.Path.{refl}
 use borrow.Author.Rules.{rules}
-use Rattle.model.specs.Call.{delete}
-use Rattle.route.specs.Means.{prefix_of, hand_is}
 use Rattle.pool.specs.Ipv4.{ipv4}
 use Rattle.pool.proofs.Ipv4.{laid4}
-use Rattle.promise.specs.Trees.{tree}
-use Rattle.known.proofs.Changes.{goes_small, goes_fit, goes_in, goes_accepted, goes, refused_by}
+use Rattle.known.proofs.Changes.{goes_accepted, goes}
 use Rattle.known.proofs.delete.Goals as goal
 
-pub judge_delete-requires : goal.judge_delete-requires
-judge_delete-requires c = c.requires
+pub delete-requires-clause-accepted : goal.delete-requires-clause-accepted
+delete-requires-clause-accepted c = goes_accepted ipv4 laid4 _ c.args.pool.now _ _ c.in_ok-capacity.ensures c.size_of-own.ensures
 
-pub size_of-own-requires : goal.size_of-own-requires
-size_of-own-requires c = goes_small ipv4 laid4 (delete (hand_is c.args.by) (prefix_of c.args.prefix)) c.args.pool.now _ c.in-Go.ensures
-
-pub slice_bounds-delete-end : goal.slice_bounds-delete-end
-slice_bounds-delete-end c =
-    goes_in ipv4 laid4 (delete (hand_is c.args.by) (prefix_of c.args.prefix)) c.args.pool.now _ _ c.in-Go.ensures c.size_of-own.ensures
-
-pub slice_bounds-delete-end-in-Go : goal.slice_bounds-delete-end-in-Go
-slice_bounds-delete-end-in-Go c =
-    let sized = c.size_of-own.ensures in
-    sized ∙ sym (goes_fit ipv4 laid4 (delete (hand_is c.args.by) (prefix_of c.args.prefix)) c.args.pool.now _ _ c.in-Go.ensures sized).1
-
-pub delete-requires : goal.delete-requires
-delete-requires c =
-    let sized = c.size_of-own.ensures in
-    record {
-      fit = goes_fit ipv4 laid4 (delete (hand_is c.args.by) (prefix_of c.args.prefix)) c.args.pool.now _ _ c.in-Go.ensures sized;
-      accepted = goes_accepted ipv4 laid4 (delete (hand_is c.args.by) (prefix_of c.args.prefix)) c.args.pool.now _ _ c.in-Go.ensures sized;
-    }
-
-pub returns-in-Go : goal.returns-in-Go
-returns-in-Go c =
-    let done = c.delete in
-    goes ipv4 laid4 _ _ _ _ c.in-Go.ensures c.size_of-own.ensures done.new.pool (search rules) refl done.ensures
-
-pub returns-in-No : goal.returns-in-No
-returns-in-No c = refused_by (tree ipv4) _ _ c.in-No.refusal c.in-No.ensures
+pub returns : goal.returns
+returns c =
+    goes ipv4 laid4 _ _ _ _ c.in_ok-capacity.ensures c.size_of-own.ensures c.delete.new.pool (search rules) refl c.delete.ensures

@@ -1,41 +1,15 @@
--- `judge_end` says whether the call may go on. Where it may, the pool's own words are lent to `apply::keep`,
--- and `goes` takes what they become to the promise. Where it may not, the pool stays as it is: `refused_by`.
-use mathlib.Core.Path.{refl, sym, ◌∙◌}
+-- Where `judge_end` says that the call may go on, the pool's own words are lent to `apply::keep`, which asks that they mean a state
+-- in which it is accepted (`goes_accepted`); `goes` takes what they become to the promise.
+use mathlib.Core.Path.{refl}
 use borrow.Author.Rules.{rules}
-use Rattle.model.specs.Call.{keep}
 use Rattle.pool.specs.Ipv4.{ipv4}
 use Rattle.pool.proofs.Ipv4.{laid4}
-use Rattle.promise.specs.Trees.{tree}
-use Rattle.known.proofs.Changes.{goes_small, goes_fit, goes_in, goes_accepted, goes, refused_by}
+use Rattle.known.proofs.Changes.{goes_accepted, goes}
 use Rattle.known.proofs.keep_trial.Goals as goal
 
-pub judge_end-requires : goal.judge_end-requires
-judge_end-requires c = c.requires
+pub keep-requires-clause-accepted : goal.keep-requires-clause-accepted
+keep-requires-clause-accepted c = goes_accepted ipv4 laid4 _ c.args.pool.now _ _ c.in_ok-capacity.ensures.may_keep c.size_of-own.ensures
 
-pub size_of-own-requires : goal.size_of-own-requires
-size_of-own-requires c = goes_small ipv4 laid4 keep c.args.pool.now _ c.in-Go.ensures.may_keep
-
-pub slice_bounds-keep-end : goal.slice_bounds-keep-end
-slice_bounds-keep-end c =
-    goes_in ipv4 laid4 keep c.args.pool.now _ _ c.in-Go.ensures.may_keep c.size_of-own.ensures
-
-pub slice_bounds-keep-end-in-Go : goal.slice_bounds-keep-end-in-Go
-slice_bounds-keep-end-in-Go c =
-    let sized = c.size_of-own.ensures in
-    sized ∙ sym (goes_fit ipv4 laid4 keep c.args.pool.now _ _ c.in-Go.ensures.may_keep sized).1
-
-pub keep-requires : goal.keep-requires
-keep-requires c =
-    let sized = c.size_of-own.ensures in
-    record {
-      fit = goes_fit ipv4 laid4 keep c.args.pool.now _ _ c.in-Go.ensures.may_keep sized;
-      accepted = goes_accepted ipv4 laid4 keep c.args.pool.now _ _ c.in-Go.ensures.may_keep sized;
-    }
-
-pub returns-in-Go : goal.returns-in-Go
-returns-in-Go c =
-    let done = c.keep in
-    goes ipv4 laid4 _ _ _ _ c.in-Go.ensures.may_keep c.size_of-own.ensures done.new.pool (search rules) refl done.ensures
-
-pub returns-in-No : goal.returns-in-No
-returns-in-No c = refused_by (tree ipv4) _ _ c.in-No.refusal c.in-No.ensures.may_keep
+pub returns : goal.returns
+returns c =
+    goes ipv4 laid4 _ _ _ _ c.in_ok-capacity.ensures.may_keep c.size_of-own.ensures c.keep.new.pool (search rules) refl c.keep.ensures

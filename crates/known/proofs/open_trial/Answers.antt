@@ -1,41 +1,15 @@
--- `judge_open` says whether the call may go on. Where it may, the pool's own words are lent to `apply::open`,
--- and `goes` takes what they become to the promise. Where it may not, the pool stays as it is: `refused_by`.
-use mathlib.Core.Path.{refl, sym, ◌∙◌}
+-- Where `judge_open` says that the call may go on, the pool's own words are lent to `apply::open`, which asks that they mean a state
+-- in which it is accepted (`goes_accepted`); `goes` takes what they become to the promise.
+use mathlib.Core.Path.{refl}
 use borrow.Author.Rules.{rules}
-use Rattle.model.specs.Call.{open_trial}
 use Rattle.pool.specs.Ipv4.{ipv4}
 use Rattle.pool.proofs.Ipv4.{laid4}
-use Rattle.promise.specs.Trees.{tree}
-use Rattle.known.proofs.Changes.{goes_small, goes_fit, goes_in, goes_accepted, goes, refused_by}
+use Rattle.known.proofs.Changes.{goes_accepted, goes}
 use Rattle.known.proofs.open_trial.Goals as goal
 
-pub judge_open-requires : goal.judge_open-requires
-judge_open-requires c = c.requires
+pub open-requires-clause-accepted : goal.open-requires-clause-accepted
+open-requires-clause-accepted c = goes_accepted ipv4 laid4 _ c.args.pool.now _ _ c.in_ok-capacity.ensures c.size_of-own.ensures
 
-pub size_of-own-requires : goal.size_of-own-requires
-size_of-own-requires c = goes_small ipv4 laid4 open_trial c.args.pool.now _ c.in-Go.ensures
-
-pub slice_bounds-open-end : goal.slice_bounds-open-end
-slice_bounds-open-end c =
-    goes_in ipv4 laid4 open_trial c.args.pool.now _ _ c.in-Go.ensures c.size_of-own.ensures
-
-pub slice_bounds-open-end-in-Go : goal.slice_bounds-open-end-in-Go
-slice_bounds-open-end-in-Go c =
-    let sized = c.size_of-own.ensures in
-    sized ∙ sym (goes_fit ipv4 laid4 open_trial c.args.pool.now _ _ c.in-Go.ensures sized).1
-
-pub open-requires : goal.open-requires
-open-requires c =
-    let sized = c.size_of-own.ensures in
-    record {
-      fit = goes_fit ipv4 laid4 open_trial c.args.pool.now _ _ c.in-Go.ensures sized;
-      accepted = goes_accepted ipv4 laid4 open_trial c.args.pool.now _ _ c.in-Go.ensures sized;
-    }
-
-pub returns-in-Go : goal.returns-in-Go
-returns-in-Go c =
-    let done = c.before.before.«open» in
-    goes ipv4 laid4 _ _ _ _ c.in-Go.ensures c.size_of-own.ensures done.new.pool (search rules) refl done.ensures
-
-pub returns-in-No : goal.returns-in-No
-returns-in-No c = refused_by (tree ipv4) _ _ c.in-No.refusal c.in-No.ensures
+pub returns : goal.returns
+returns c =
+    goes ipv4 laid4 _ _ _ _ c.in_ok-capacity.ensures c.size_of-own.ensures c.open.new.pool (search rules) refl c.open.ensures

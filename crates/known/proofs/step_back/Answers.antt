@@ -1,41 +1,15 @@
--- `judge_step_back` says whether the call may go on. Where it may, the pool's own words are lent to `undo::step_back`,
--- and `goes` takes what they become to the promise. Where it may not, the pool stays as it is: `refused_by`.
-use mathlib.Core.Path.{refl, sym, ◌∙◌}
+-- Where `judge_step_back` says that the call may go on, the pool's own words are lent to `undo::step_back`, which asks that they mean a state
+-- in which it is accepted (`goes_accepted`); `goes` takes what they become to the promise.
+use mathlib.Core.Path.{refl}
 use borrow.Author.Rules.{rules}
-use Rattle.model.specs.Call.{step_back}
 use Rattle.pool.specs.Ipv4.{ipv4}
 use Rattle.pool.proofs.Ipv4.{laid4}
-use Rattle.promise.specs.Trees.{tree}
-use Rattle.known.proofs.Changes.{goes_small, goes_fit, goes_in, goes_accepted, goes, refused_by}
+use Rattle.known.proofs.Changes.{goes_accepted, goes}
 use Rattle.known.proofs.step_back.Goals as goal
 
-pub judge_step_back-requires : goal.judge_step_back-requires
-judge_step_back-requires c = c.requires
+pub step_back-requires-clause-accepted : goal.step_back-requires-clause-accepted
+step_back-requires-clause-accepted c = goes_accepted ipv4 laid4 _ c.args.pool.now _ _ c.in_ok-capacity.ensures c.size_of-own.ensures
 
-pub size_of-own-requires : goal.size_of-own-requires
-size_of-own-requires c = goes_small ipv4 laid4 step_back c.args.pool.now _ c.in-Go.ensures
-
-pub slice_bounds-step_back-end : goal.slice_bounds-step_back-end
-slice_bounds-step_back-end c =
-    goes_in ipv4 laid4 step_back c.args.pool.now _ _ c.in-Go.ensures c.size_of-own.ensures
-
-pub slice_bounds-step_back-end-in-Go : goal.slice_bounds-step_back-end-in-Go
-slice_bounds-step_back-end-in-Go c =
-    let sized = c.size_of-own.ensures in
-    sized ∙ sym (goes_fit ipv4 laid4 step_back c.args.pool.now _ _ c.in-Go.ensures sized).1
-
-pub step_back-requires : goal.step_back-requires
-step_back-requires c =
-    let sized = c.size_of-own.ensures in
-    record {
-      fit = goes_fit ipv4 laid4 step_back c.args.pool.now _ _ c.in-Go.ensures sized;
-      accepted = goes_accepted ipv4 laid4 step_back c.args.pool.now _ _ c.in-Go.ensures sized;
-    }
-
-pub returns-in-Go : goal.returns-in-Go
-returns-in-Go c =
-    let done = c.step_back in
-    goes ipv4 laid4 _ _ _ _ c.in-Go.ensures c.size_of-own.ensures done.new.pool (search rules) refl done.ensures
-
-pub returns-in-No : goal.returns-in-No
-returns-in-No c = refused_by (tree ipv4) _ _ c.in-No.refusal c.in-No.ensures
+pub returns : goal.returns
+returns c =
+    goes ipv4 laid4 _ _ _ _ c.in_ok-capacity.ensures c.size_of-own.ensures c.step_back.new.pool (search rules) refl c.step_back.ensures

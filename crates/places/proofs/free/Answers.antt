@@ -1,20 +1,24 @@
-use mathlib.Core.Path.{sym, ◌∙◌}
+-- What `find` gives has the closure's yes, so its mark is 0. If it gives none, each mark is at least 1, which the caller rules out.
+use Prim.Native.Nat.{ℕ, ◌≤◌}
+use mathlib.Core.Path.{◌≡◌, refl}
 use native.Mathlib.Omega.{arith}
-use borrow.Author.Rules.{rules}
-use borrow.Author.Count.{below_more}
+use borrow.Author.Tests.{tests}
+use Rattle.std.proofs.Common.{rules}
+use Rattle.std.proofs.lemmas.Iterator.{first_from_Range}
+use Rattle.std.specs.Option.{MatchOption, IsSome}
+use Rattle.std.specs.Prelude.{Option, Some, None}
+use Rattle.pool.specs.Ipv4.{ipv4}
+use Rattle.places.specs.Marks.{mark_of}
 use Rattle.places.proofs.free.Goals as goal
 
-pub loop-at-init : goal.loop-at-init
-loop-at-init c = (search rules, λ k l. absurd (omega arith))
+some_if : (r : Option ℕ) (Nothing : Type 0) (Found : ℕ → Type 0) → MatchOption r Nothing Found → (Nothing → ⊥) → IsSome r
+some_if None Nothing Found h n = absurd (n h)
+some_if (Some i) Nothing Found h n = refl
 
-pub returns-then-is_free : goal.returns-then-is_free
-returns-then-is_free c = record { in_pool = search rules; free = sym c.mark_of-is_free.ensures ∙ c.if-is_free.true }
-
-pub loop-at-preserved : goal.loop-at-preserved
-loop-at-preserved c =
-    let below = c.loop-at.invariant.1 in
-    (search rules, below_more _ _ below (omega (arith, c.mark_of-is_free.ensures, c.if-is_free.false)))
-
-pub returns : goal.returns
-returns c =
-    absurd (c.requires.spare (λ k l. c.loop-at.invariant.1 k (omega arith)))
+pub unwrap-requires : goal.unwrap-requires
+unwrap-requires c =
+    let mark = mark_of ipv4 c.args.capacity c.args.pool.now c.args.sort in
+    some_if _ _ _
+    (first_from_Range _ _ _ _ (λ i. mark i ≡ 0) (λ i. 1 ≤ mark i) c.find-found.ensures.ran
+    (λ x q k. search (rules, tests)) (λ x q k. search (rules, tests)))
+    (λ none. c.requires.spare (λ i below. none i (omega arith) below))

@@ -1,37 +1,18 @@
-use mathlib.Core.Path.{◌≡◌, refl, sym, ap, ◌∙◌}
+-- What the filter keeps of the places is what `is_used` passes, and `kept_tally` says that their number is the tally.
+use mathlib.Core.Path.{◌∙◌}
 use native.Mathlib.Omega.{arith}
+use borrow.Author.Tests.{tests}
+use Rattle.std.proofs.Common.{rules}
+use Rattle.std.proofs.lemmas.Iterator.{YieldsList-from_range}
+use Rattle.std.proofs.lemmas.Iterator.Consumers.{YieldsList-from_filter, count_from_yields_List}
 use Rattle.pool.specs.Ipv4.{ipv4}
-use Rattle.places.specs.Marks.{tally, is_used}
-use Rattle.places.proofs.Tally.{tally_more, tally_same, tally_le, passes, passes_not}
+use Rattle.places.specs.Marks.{is_used}
+use Rattle.places.proofs.Tally.{kept_tally}
 use Rattle.places.proofs.used.Goals as goal
-use Rattle.places.proofs.used.Goals.{then-mark_of-ne0, else-mark_of-ne0}
-
-pub loop-at-init : goal.loop-at-init
-loop-at-init c = (omega arith, refl)
-
-pub overflow_add-count : goal.overflow_add-count
-overflow_add-count c =
-    omega (arith, tally_le (is_used ipv4 c.args.capacity c.args.pool.now c.args.sort) c.loop-at.at, c.loop-at.invariant.1)
-
-pub overflow_add-at : goal.overflow_add-at
-overflow_add-at c = omega arith
-
-pub loop-at-smaller : goal.loop-at-smaller
-loop-at-smaller c = omega arith
-
-pub loop-at-preserved : goal.loop-at-preserved
-loop-at-preserved c =
-    let read = c.mark_of.ensures in
-    let more = tally_more (is_used ipv4 c.args.capacity c.args.pool.now c.args.sort) c.loop-at.at _ _ c.loop-at.invariant.1 in
-    let same = tally_same (is_used ipv4 c.args.capacity c.args.pool.now c.args.sort) c.loop-at.at _ _ c.loop-at.invariant.1 in (
-      omega arith,
-      elim c.if-mark_of-ne0.branch [
-        | then-mark_of-ne0 w ↦ more (passes _ (λ e. w.if-mark_of-ne0.true (read ∙ e))) w.count-is
-        | else-mark_of-ne0 w ↦ same (passes_not _ (sym read ∙ w.if-mark_of-ne0.false)) w.count-is
-      ],
-    )
 
 pub returns : goal.returns
 returns c =
-    let end : c.loop-at.at ≡ c.args.capacity = omega arith in
-    c.loop-at.invariant.1 ∙ ap (tally (is_used ipv4 c.args.capacity c.args.pool.now c.args.sort)) end
+    let test = is_used ipv4 c.args.capacity c.args.pool.now c.args.sort in
+    let places = YieldsList-from_range {s = c.filter.result.iter} 0 c.args.capacity c.args.capacity (search rules) (omega arith) in
+    count_from_yields_List _ _ c.count.ensures.ran (YieldsList-from_filter _ test places c.filter.ensures.closure (λ x b q k. search (rules, tests)))
+    ∙ kept_tally test c.args.capacity

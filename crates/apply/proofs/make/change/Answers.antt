@@ -2,19 +2,15 @@
 use Rattle.pool.specs.Ipv4.{ipv4}
 use Rattle.pool.proofs.Ipv4.{laid4}
 use Rattle.apply.proofs.Made.{change_to_take, change_slot, change_does}
-use borrow.Author.Rules.{rules}
 use Rattle.apply.proofs.make.change.Goals as goal
 
-pub swap-requires : goal.swap-requires
-swap-requires c = record { fit = c.requires.fit; to_take = (c.requires.accepted.0, change_to_take ipv4 laid4 _ _ _ _ c.requires.accepted.1) }
+pub swap-requires-clause-to_take : goal.swap-requires-clause-to_take
+swap-requires-clause-to_take c = (c.requires.accepted.0, change_to_take ipv4 laid4 _ _ _ _ c.requires.accepted.1)
 
-pub note-requires : goal.note-requires
-note-requires c =
+pub note-requires-clause-pool_bound : goal.note-requires-clause-pool_bound
+note-requires-clause-pool_bound c =
     let a = c.requires.accepted.1 in
-    record {
-      fit = search rules;
-      pool_bound = change_slot ipv4 laid4 _ _ _ _ a _ (c.swap.ensures _ (change_to_take ipv4 laid4 _ _ _ _ a));
-    }
+    change_slot ipv4 laid4 _ _ _ _ a _ (c.swap.ensures _ (change_to_take ipv4 laid4 _ _ _ _ a))
 
 pub returns : goal.returns
 returns c =

@@ -2,19 +2,15 @@
 use Rattle.pool.specs.Ipv4.{ipv4}
 use Rattle.pool.proofs.Ipv4.{laid4}
 use Rattle.apply.proofs.Made.{delete_to_take, delete_slot, delete_does}
-use borrow.Author.Rules.{rules}
 use Rattle.apply.proofs.make.delete.Goals as goal
 
-pub take_out-requires : goal.take_out-requires
-take_out-requires c = record { fit = c.requires.fit; to_take = (c.requires.accepted.0, delete_to_take ipv4 laid4 _ _ _ _ _ c.requires.accepted.1) }
+pub take_out-requires-clause-to_take : goal.take_out-requires-clause-to_take
+take_out-requires-clause-to_take c = (c.requires.accepted.0, delete_to_take ipv4 laid4 _ _ _ _ _ c.requires.accepted.1)
 
-pub note-requires : goal.note-requires
-note-requires c =
+pub note-requires-clause-pool_bound : goal.note-requires-clause-pool_bound
+note-requires-clause-pool_bound c =
     let a = c.requires.accepted.1 in
-    record {
-      fit = search rules;
-      pool_bound = delete_slot ipv4 laid4 _ _ _ _ _ a _ (c.take_out.ensures _ (delete_to_take ipv4 laid4 _ _ _ _ _ a));
-    }
+    delete_slot ipv4 laid4 _ _ _ _ _ a _ (c.take_out.ensures _ (delete_to_take ipv4 laid4 _ _ _ _ _ a))
 
 pub returns : goal.returns
 returns c =

@@ -8,15 +8,15 @@ use Rattle.edit.proofs.change.swap.Goals as goal
 pub swap_payload-requires : goal.swap_payload-requires
 swap_payload-requires c =
     let u = c.requires.fit in
-    let v = c.in-At.ensures.in_pool in
+    let v = c.in-Some.ensures.in_pool in
     (omega (arith, u.1, v.1), omega (arith, u.0, v.1))
 
-pub returns-in-At : goal.returns-in-At
-returns-in-At c =
-    let held = c.in-At.ensures in
-    λ s p. swap_done ipv4 laid4 _ _ _ s p _ _ _ _ held c.swap_payload.ensures
+pub returns-in-Some : goal.returns-in-Some
+returns-in-Some c =
+    let held = c.in-Some.ensures in
+    λ s p. swap_done ipv4 laid4 _ _ _ s p _ _ _ held c.swap_payload.ensures
 
-pub returns-in-Nowhere : goal.returns-in-Nowhere
-returns-in-Nowhere c =
-    let held = c.in-Nowhere.ensures in
+pub returns-in_default : goal.returns-in_default
+returns-in_default c =
+    let held = c.in_default.ensures in
     λ s p. absurd (held_not ipv4 laid4 _ _ _ s p held)

@@ -5,4 +5,4 @@ use Rattle.exports.proofs.Answers.{as_fresh}
 use Rattle.exports.proofs.beginning.rishavand_fresh.Goals as goal
 
 pub returns : goal.returns
-returns c = as_fresh (tree ipv4) c.number.ensures c.fresh-done.ensures
+returns c = as_fresh (tree ipv4) c.number.ensures c.fresh.ensures

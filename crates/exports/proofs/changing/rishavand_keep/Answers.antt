@@ -6,4 +6,4 @@ use Rattle.exports.proofs.Answers.{as_call}
 use Rattle.exports.proofs.changing.rishavand_keep.Goals as goal
 
 pub returns : goal.returns
-returns c = as_call (tree ipv4) refl c.number.ensures c.keep_trial-done.ensures
+returns c = as_call (tree ipv4) refl c.number.ensures c.keep_trial.ensures

@@ -8,4 +8,4 @@ use Rattle.exports.proofs.learning.rishavand_learned_add.Goals as goal
 
 pub returns : goal.returns
 returns c =
-    as_call (tree ipv4) (ap add c.route_from-route.ensures) c.number.ensures c.add-done.ensures
+    as_call (tree ipv4) (ap add c.route_from-route.ensures) c.number.ensures c.add.ensures

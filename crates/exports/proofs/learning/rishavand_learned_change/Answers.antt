@@ -8,4 +8,4 @@ use Rattle.exports.proofs.learning.rishavand_learned_change.Goals as goal
 
 pub returns : goal.returns
 returns c =
-    as_call (tree ipv4) (ap change c.route_from-route.ensures) c.number.ensures c.change_hop-done.ensures
+    as_call (tree ipv4) (ap change c.route_from-route.ensures) c.number.ensures c.change_hop.ensures

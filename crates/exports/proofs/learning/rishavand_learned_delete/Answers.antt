@@ -12,4 +12,4 @@ pub returns : goal.returns
 returns c =
     let made = c.new-prefix in
     let named = prefix_in_lem made.result made.ensures.0 made.ensures.1 in
-    as_call (tree ipv4) (ap (delete learner) named) c.number.ensures c.delete-done.ensures
+    as_call (tree ipv4) (ap (delete learner) named) c.number.ensures c.delete.ensures

@@ -1,17 +1,8 @@
--- What `table::mask_length` answers is a refusal, whose number is returned (`out_refused`), or a number that is written (`out_shown`).
-use mathlib.Core.Path.{refl, ap}
-use Rattle.route.specs.Answers.{measured_number, measured_value}
-use Rattle.codes.proofs.Coded.{out_refused, out_shown}
+-- `table::mask_length` keeps its promise, and `show` writes its number: `out_shows`.
+use borrow.Author.Rules.{rules}
+use Rattle.route.specs.Answers.{measured_value}
+use Rattle.codes.proofs.Coded.{out_shows}
 use Rattle.exports.proofs.reading.rishavand_mask_length.Goals as goal
 
-pub returns-in_default : goal.returns-in_default
-returns-in_default c =
-    let told = c.in_default in
-    let promise = c.mask_length-answer.ensures in
-    out_refused told.field-0 (ap measured_number told.is) (ap measured_value told.is) c.number.ensures promise
-
 pub returns : goal.returns
-returns c =
-    let told = c.in-Length in
-    let promise = c.mask_length-answer.ensures in
-    out_shown _ (ap measured_number told.is) (ap measured_value told.is) refl promise
+returns c = out_shows c.mask_length.result c.map.result measured_value c.map.ensures.cases (λ x ws h. search rules) c.show.ensures c.mask_length.ensures

@@ -1,17 +1,8 @@
--- What `table::room_left` answers is a refusal, whose number is returned (`out_refused`), or a number that is written (`out_shown`).
-use mathlib.Core.Path.{refl, ap}
-use Rattle.route.specs.Answers.{room_number, room_value}
-use Rattle.codes.proofs.Coded.{out_refused, out_shown}
+-- `table::room_left` keeps its promise, and `show` writes its number: `out_shows`.
+use borrow.Author.Rules.{rules}
+use Rattle.route.specs.Answers.{room_value}
+use Rattle.codes.proofs.Coded.{out_shows}
 use Rattle.exports.proofs.reading.rishavand_room.Goals as goal
 
-pub returns-in_default : goal.returns-in_default
-returns-in_default c =
-    let told = c.in_default in
-    let promise = c.room_left-answer.ensures in
-    out_refused told.field-0 (ap room_number told.is) (ap room_value told.is) c.number.ensures promise
-
 pub returns : goal.returns
-returns c =
-    let told = c.in-Left in
-    let promise = c.room_left-answer.ensures in
-    out_shown _ (ap room_number told.is) (ap room_value told.is) refl promise
+returns c = out_shows c.room_left.result c.map.result room_value c.map.ensures.cases (λ x ws h. search rules) c.show.ensures c.room_left.ensures

@@ -1,24 +1,16 @@
 -- The pool's own words are lent to `search::find`; what it finds there tells whether the prefix is held: `tells_holds`.
-use mathlib.Core.Path.{sym, ◌∙◌}
-use lib.ListN.{take}
-use Rattle.pool.specs.Fit.{Fit}
+use mathlib.Core.Path.{refl}
+use borrow.Author.Rules.{rules}
 use Rattle.pool.specs.Ipv4.{ipv4}
 use Rattle.pool.proofs.Ipv4.{laid4}
-use Rattle.verdict.proofs.Lent.{own_fits, sound_own}
 use Rattle.may.proofs.Mays.{tells_holds}
 use Rattle.may.proofs.judge.holds.Goals as goal
-use Rattle.may.proofs.judge.holds.Goals.{After-size_of-own}
 
--- the own words are the pool's own
-fits : (c : After-size_of-own) → Fit ipv4 c.args.capacity (take c.size_of-own.result c.args.pool.now)
-fits c = own_fits ipv4 laid4 _ _ _ (sound_own ipv4 _ _ c.requires) c.size_of-own.ensures
+pub returns-in-Ok-Some : goal.returns-in-Ok-Some
+returns-in-Ok-Some c = tells_holds ipv4 laid4 _ _ _ c.requires c.size_of-own.ensures _ _ _ (rw c.in-Ok-Some.field-0-is at c.in-Ok-Some.ensures) refl
 
-pub slice_bounds-find-end : goal.slice_bounds-find-end
-slice_bounds-find-end c = c.size_of-own.ensures ∙ sym (fits c).1
+pub returns-in_default : goal.returns-in_default
+returns-in_default c = tells_holds ipv4 laid4 _ _ _ c.requires c.size_of-own.ensures _ _ _ c.in_default.ensures (search rules)
 
-pub find-requires : goal.find-requires
-find-requires c = fits c
-
-pub returns : goal.returns
-returns c =
-    tells_holds ipv4 laid4 _ _ _ c.requires c.size_of-own.ensures _ _ _ c.find.ensures c.is_at.ensures
+pub returns-in_default-2 : goal.returns-in_default-2
+returns-in_default-2 c = tells_holds ipv4 laid4 _ _ _ c.requires c.size_of-own.ensures _ _ _ (rw c.in_default.is at c.find.ensures) refl

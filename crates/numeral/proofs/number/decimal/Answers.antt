@@ -1,32 +1,22 @@
-use native.Mathlib.Omega.{arith}
+-- A byte is no digit, or makes the number too great, or is one digit more: one law each.
 use borrow.Author.Rules.{rules}
-use Rattle.numeral.proofs.Digits.{next, turn, too_great, ended}
+use Rattle.numeral.proofs.Digits.{no_digit, too_great, turn, ended}
 use Rattle.numeral.proofs.number.decimal.Goals as goal
 
-pub returns-then-s-eq0 : goal.returns-then-s-eq0
-returns-then-s-eq0 c = λ n some h fits. omega (arith, some)
+pub loop-b-init : goal.loop-b-init
+loop-b-init c = (search rules, record { whole = λ n h. h; rest = λ n h. h })
 
-pub loop-i-init : goal.loop-i-init
-loop-i-init c = (search rules, search rules, record { whole = λ n h. h; rest = λ n h. h })
+pub returns-in_err-digit_of : goal.returns-in_err-digit_of
+returns-in_err-digit_of c =
+    rw c.from_residual.ensures (no_digit _ _ _ (search rules) c.loop-b.invariant.1 c.in_err-digit_of.ensures)
 
-pub returns-then-b-lt48 : goal.returns-then-b-lt48
-returns-then-b-lt48 c =
-    λ n some h fits. omega (arith, (next _ _ _ (search rules) c.loop-i.invariant.2 n h).0)
+pub returns-in_err-value : goal.returns-in_err-value
+returns-in_err-value c =
+    rw c.from_residual-in_err-value.ensures (too_great _ _ _ (search rules) c.loop-b.invariant.1 _ c.in_ok-digit_of.ensures c.in_err-value.ensures)
 
-pub returns-then-is_above : goal.returns-then-is_above
-returns-then-is_above c =
-    λ n some h fits. omega (arith, (next _ _ _ (search rules) c.loop-i.invariant.2 n h).1)
-
-pub returns-then-value-gt-LARGEST : goal.returns-then-value-gt-LARGEST
-returns-then-value-gt-LARGEST c =
-    too_great _ _ _ (search rules) c.loop-i.invariant.2 c.wide.result c.wide.ensures (search rules)
-
-pub loop-i-preserved : goal.loop-i-preserved
-loop-i-preserved c = (
-  search rules,
-  search rules,
-  turn _ _ _ (search rules) c.loop-i.invariant.2 c.wide.result (search rules) (search rules) c.wide.ensures,
-)
+pub loop-b-preserved : goal.loop-b-preserved
+loop-b-preserved c =
+    (c.loop-b.invariant.0, turn _ _ _ (search rules) c.loop-b.invariant.1 _ c.in_ok-digit_of.ensures _ c.in_ok-value.ensures.1)
 
 pub returns : goal.returns
-returns c = (search rules, ended _ _ _ (search rules) c.loop-i.invariant.2)
+returns c = (c.loop-b.invariant.0, ended _ _ _ (search rules) c.loop-b.invariant.1)

@@ -1,6 +1,6 @@
 -- The loop's invariant: the place is in the pool, the cell is one of the chain's, and on any chain from the first place, the routes before the
 -- cell are longer. The measure is the length at the place, which falls along the chain. A route that is not longer is `chain_here`; a chain
--- that ends is `chain_last`, and one that is damaged `chain_damaged`.
+-- that ends or is damaged behind a longer one is `chain_left`.
 use Prim.Native.Nat.{◌+◌, ◌<◌}
 use Rattle.pool.specs.Layout.{prefix_at}
 use Rattle.pool.specs.Ipv4.{ipv4}

@@ -1,13 +1,14 @@
 -- `chain_cell` finds the cell, which is in the pool. A link there to a route in the pool is `hung_route`; any other link leads to no route
 -- in the pool, which is `hung_nowhere`.
 use Prim.Native.Nat.{◌<◌}
-use mathlib.Core.Path.{◌≡◌}
+use mathlib.Core.Path.{◌≡◌, ap, ◌∙◌}
 use native.Mathlib.Omega.{arith}
 use lib.ListN.{length}
+use Rattle.std.specs.Prelude.{Some, None}
 use Rattle.pool.specs.Layout.{word}
 use Rattle.pool.specs.Ipv4.{ipv4}
 use Rattle.pool.specs.Link.{to_route}
-use Rattle.pool.specs.declared.link.Link.TheVariants.{Nothing, Route, Inner}
+use Rattle.pool.specs.declared.link.Link.TheVariants.{Route, Inner}
 use Rattle.pool.proofs.Ipv4.{laid4}
 use Rattle.search.proofs.Sight.{read_as}
 use Rattle.plan.proofs.ChainAt.{cell_inside}
@@ -21,13 +22,7 @@ inside c = cell_inside ipv4 laid4 _ _ _ _ _ _ c.requires.fit c.requires.first_lt
 
 -- what the link was read as
 routed : (c : In-Route) → (word c.args.pool.now c.chain_cell-cell.result) ≡ to_route c.in-Route.place.0
-routed c = read_as _ _ (Route c.in-Route.place) c.link_from.ensures c.in-Route.is
-
-pub offset_bounds-pool-cell : goal.offset_bounds-pool-cell
-offset_bounds-pool-cell c = omega (arith, inside c)
-
-pub bounds-pool-cell : goal.bounds-pool-cell
-bounds-pool-cell c = inside (goal.at.bounds-pool-cell c).After-chain_cell-cell
+routed c = read_as _ _ (Some (Route c.in-Route.place)) c.link_from.ensures (c.in_ok-place.was ∙ ap Some c.in-Route.is)
 
 pub returns-then-place-capacity : goal.returns-then-place-capacity
 returns-then-place-capacity c =
@@ -40,10 +35,10 @@ returns-else-place-capacity c =
 
 pub returns-in-Inner : goal.returns-in-Inner
 returns-in-Inner c =
-    let inner = read_as _ _ (Inner c.in-Inner.field-0) c.link_from.ensures c.in-Inner.is in
+    let inner = read_as _ _ (Some (Inner c.in-Inner.field-0)) c.link_from.ensures (c.in_ok-place.was ∙ ap Some c.in-Inner.is) in
     hung_nowhere ipv4 laid4 _ _ _ _ _ _ c.chain_cell-cell.ensures (λ j e l. omega arith)
 
-pub returns-in-Nothing : goal.returns-in-Nothing
-returns-in-Nothing c =
-    let nothing = read_as _ _ Nothing c.link_from.ensures c.in-Nothing.is in
-    hung_nowhere ipv4 laid4 _ _ _ _ _ _ c.chain_cell-cell.ensures (λ j e l. omega arith)
+pub returns-in_err-place : goal.returns-in_err-place
+returns-in_err-place c =
+    let nothing = read_as _ _ None c.link_from.ensures c.in_err-place.was in
+    rw c.from_residual.ensures (hung_nowhere ipv4 laid4 _ _ _ _ _ _ c.chain_cell-cell.ensures (λ j e l. omega arith))

@@ -2,49 +2,24 @@
 -- link that stays is of the side that the address does not take there (`take_left`, `take_right`): `lone_leaf`.
 use Prim.Native.Nat.{ℕ, ◌-◌}
 use mathlib.Core.Path.{◌≡◌, refl, sym, ap, ◌∙◌}
-use native.Mathlib.Omega.{arith}
 use lib.ListN.{get_or}
 use Rattle.bits.specs.Address.{bit}
 use Rattle.bits.proofs.First.{bit_lt}
 use Rattle.pool.specs.Layout.{mark_at}
 use Rattle.pool.specs.Ipv4.{ipv4}
 use Rattle.pool.proofs.Ipv4.{laid4}
-use Rattle.search.specs.Down.{Usable}
 use Rattle.search.proofs.Sight.{take_left, take_right}
-use Rattle.plan.proofs.CellAt.{fewer, last_usable}
 use Rattle.plan.proofs.TakePlanned.{lone_last, lone_leaf}
 use Rattle.plan.proofs.plan.plan_lone.Goals as goal
-use Rattle.plan.proofs.plan.plan_lone.Goals.{After-bit_of-on_left, Else-depth-eq0}
+use Rattle.plan.proofs.plan.plan_lone.Goals.{After-bit_of-on_left}
 
--- the last place of the way can be used
-last : (c : Else-depth-eq0) → Usable ipv4 c.args.capacity c.args.pool.now (get_or c.args.inner (c.args.depth - 1) 0)
-last c = last_usable ipv4 laid4 _ _ _ _ c.if-depth-eq0.false c.requires.way_usable
-
+-- the side that the address takes
 side : (c : After-bit_of-on_left) →
     c.bit_of-on_left.result ≡ bit 32 ((mark_at ipv4 c.args.capacity c.args.pool.now (get_or c.args.inner (c.args.depth - 1) 0)) - 1) c.args.address
 side c = c.bit_of-on_left.ensures ∙ ap (λ (m : ℕ). bit 32 (m - 1) c.args.address) c.mark_at-mark.ensures
 
 pub returns-then-depth-eq0 : goal.returns-then-depth-eq0
 returns-then-depth-eq0 c = lone_last ipv4 laid4 _ _ _ _ _ _ c.requires.place_lt_capacity c.if-depth-eq0.true
-
-pub mark_at-mark-requires : goal.mark_at-mark-requires
-mark_at-mark-requires c = let u = last c in omega arith
-
-pub cell_of-up-requires : goal.cell_of-up-requires
-cell_of-up-requires c =
-    record { fit = c.requires.fit; way_usable = fewer ipv4 laid4 _ _ _ _ _ (omega arith) c.requires.way_usable }
-
-pub overflow_sub-mark : goal.overflow_sub-mark
-overflow_sub-mark c = let u = last (goal.at.overflow_sub-mark c).Else-depth-eq0 in omega arith
-
-pub bit_of-on_left-requires : goal.bit_of-on_left-requires
-bit_of-on_left-requires c = let u = last (goal.at.bit_of-on_left-requires c).Else-depth-eq0 in omega arith
-
-pub right_at-requires : goal.right_at-requires
-right_at-requires c = let u = last (goal.at.right_at-requires c).Else-depth-eq0 in omega arith
-
-pub left_at-requires : goal.left_at-requires
-left_at-requires c = let u = last (goal.at.left_at-requires c).Else-depth-eq0 in omega arith
 
 pub returns-then-on_left : goal.returns-then-on_left
 returns-then-on_left c =

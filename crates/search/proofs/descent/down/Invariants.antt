@@ -1,5 +1,5 @@
 -- The loop is partway down every tree that the words hold: the places passed are kept, and the part that is left stands at the link.
--- Each bit that is tested is later than the last, so what is left of the width falls. Each end is a law: `ways_empty`, `ways_leaf`, `ways_damaged`.
+-- Each bit that is tested is later than the last, so what is left of the width falls. The ends at no root and at a leaf are laws: `ways_empty`, `ways_leaf`.
 use Prim.Native.Nat.{◌-◌, ◌≤◌}
 use mathlib.Core.Path.{◌≡◌}
 use lib.ListN.{length}

@@ -1,5 +1,5 @@
--- The loop says that whatever tree stands at the start has its leftmost leaf where the one at the link has it: `left_start`, `left_step`.
--- Each bit that is tested is later than the last, so what is left of the width falls. The ends are `left_leaf_lem` and `left_damaged`.
+-- The loop says that whatever tree stands at the start has its leftmost leaf where the one at the link has it: `left_step`.
+-- Each bit that is tested is later than the last, so what is left of the width falls.
 use Prim.Native.Nat.{◌-◌}
 use Rattle.pool.specs.Ipv4.{ipv4}
 use Rattle.search.proofs.Left.{AllLeft}

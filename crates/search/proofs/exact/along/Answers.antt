@@ -1,59 +1,39 @@
-use Prim.Native.Nat.{ℕ, ◌+◌}
+use mathlib.Core.Bool.{Bool}
 use mathlib.Core.Path.{◌≡◌, sym, ap, ◌∙◌}
-use native.Mathlib.Omega.{arith}
 use Rattle.model.specs.Prefix.{Prefix}
-use Rattle.route.specs.Means.{prefix_of}
-use Rattle.pool.specs.Layout.{prefix_at}
+use Rattle.pool.specs.Layout.{held_prefix}
 use Rattle.pool.specs.Ipv4.{ipv4}
-use Rattle.search.specs.Find.{asked}
-use Rattle.search.proofs.Spots.{along_start, along_next, along_hit, along_end, along_damaged}
+use Rattle.search.specs.Find.{Tests}
+use Rattle.search.proofs.Chain.{held_read}
+use Rattle.search.proofs.Spots.{along_start, along_on, along_hit, hung_in_pool}
+use Rattle.search.proofs.exact.along.Given as given
 use Rattle.search.proofs.exact.along.Goals as goal
-use Rattle.search.proofs.exact.along.Goals.{After-passes, After-prefix_at-held}
+use Rattle.search.proofs.exact.along.Goals.{After-passes}
 
--- the prefix that was read, and the test of it
-held : (c : After-prefix_at-held) →
-    prefix_of c.prefix_at-held.result ≡ prefix_at ipv4 c.args.pool.now (ipv4.seat c.loop-prefix.place.0 + ipv4.prefix_offset)
-held c = c.prefix_at-held.ensures ∙ ap (λ (n : ℕ). prefix_at ipv4 c.args.pool.now (n + ipv4.prefix_offset)) c.seat.ensures
+-- what is answered of the prefix that was read is what the test says of the one that is held
+told : (test : Prefix → Bool) (x : Bool) (p q : Prefix) → x ≡ test p → p ≡ q → test q ≡ x
+told test x p q e f = sym (e ∙ ap test f)
 
-tested : (c : After-passes) →
-    let test = asked c.args.wanted (prefix_of c.args.prefix) in
-    c.passes.result ≡ test (prefix_at ipv4 c.args.pool.now (ipv4.seat c.loop-prefix.place.0 + ipv4.prefix_offset))
-tested c =
-    let test = asked c.args.wanted (prefix_of c.args.prefix) in
-    let seated = λ (n : ℕ). prefix_at ipv4 c.args.pool.now (n + ipv4.prefix_offset) in
-    c.passes.ensures ∙ ap test (c.prefix_at-held.ensures ∙ ap seated c.seat.ensures)
+-- what a test that the answers agree with says of the prefix that the place holds
+tested : (g : given.Over) (c : After-passes g) (test : Prefix → Bool) → Tests (given.F-post g c.args.passes) test →
+    test (held_prefix ipv4 c.args.pool.now c.in-Some.place.0) ≡ c.passes.result
+tested g c test says =
+    told test _ _ _ (says c.prefix_at-held.result _ c.passes.ensures) (held_read ipv4 _ _ _ _ c.seat.ensures c.prefix_at-held.ensures)
 
-length_held : (c : After-prefix_at-held) →
-    c.prefix_at-held.result.length.0 ≡ (prefix_at ipv4 c.args.pool.now (ipv4.seat c.loop-prefix.place.0 + ipv4.prefix_offset)).length
-length_held c = ap (λ (p : Prefix). p.length) (held c)
-
-pub loop-prefix-init : goal.loop-prefix-init
-loop-prefix-init c = (c.requires.first_lt_capacity, along_start ipv4 _ _ _ _)
+pub loop-hung-init : goal.loop-hung-init
+loop-hung-init g c = (c.requires.first_lt_capacity, λ test says. along_start ipv4 _ _ test _)
 
 pub returns-then-passes : goal.returns-then-passes
-returns-then-passes c =
-    let inv = c.loop-prefix.invariant in
-    along_hit ipv4 _ _ _ _ _ inv.0 inv.1 (sym (tested (goal.at.returns-then-passes c).After-passes) ∙ c.if-passes.true)
+returns-then-passes g c test says =
+    let inv = rw c.in-Some.is at c.loop-hung.invariant in
+    along_hit ipv4 _ _ test _ _ inv.0 (inv.1 test says) (tested g (goal.at.returns-then-passes g c).After-passes test says ∙ c.if-passes.true)
 
-pub loop-prefix-smaller : goal.loop-prefix-smaller
-loop-prefix-smaller c =
-    let hung = c.in-Route.ensures in
-    omega (arith, length_held (goal.at.loop-prefix-smaller c).After-prefix_at-held)
-
-pub loop-prefix-preserved : goal.loop-prefix-preserved
-loop-prefix-preserved c =
-    let hung = c.in-Route.ensures in
-    let inv = c.loop-prefix.invariant in
-    (hung.0, along_next ipv4 _ _ _ _ _ _ inv.1 (sym (tested (goal.at.loop-prefix-preserved c).After-passes) ∙ c.if-passes.false) hung.1)
-
-pub returns-in-End : goal.returns-in-End
-returns-in-End c =
-    let ended = c.in-End.ensures in
-    let inv = c.loop-prefix.invariant in
-    along_end ipv4 _ _ _ _ _ inv.1 (sym (tested (goal.at.returns-in-End c).After-passes) ∙ c.if-passes.false) ended
-
-pub returns-in-Damaged : goal.returns-in-Damaged
-returns-in-Damaged c =
-    let damaged = c.in-Damaged.ensures in
-    let inv = c.loop-prefix.invariant in
-    along_damaged ipv4 _ _ _ _ _ _ inv.1 (length_held (goal.at.returns-in-Damaged c).After-prefix_at-held) damaged
+pub loop-hung-preserved : goal.loop-hung-preserved
+loop-hung-preserved g c =
+    let inv = rw c.in-Some.is at c.loop-hung.invariant in
+    let next = c.in_ok-hung.hung in
+    let hung = c.in_ok-hung.ensures in
+    let seen = (goal.at.loop-hung-preserved g c).After-passes in (
+      hung_in_pool ipv4 _ c.args.pool.now c.in-Some.place.0 c.prefix_at-held.result.length.0 next hung,
+      λ test says. along_on ipv4 _ _ test _ _ _ next (inv.1 test says) (tested g seen test says ∙ c.if-passes.false) hung,
+    )

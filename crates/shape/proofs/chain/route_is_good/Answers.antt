@@ -2,61 +2,63 @@
 -- it holds just where the route is fine.
 use Prim.Native.Nat.{ℕ}
 use mathlib.Core.Path.{◌≡◌, ap, sym, subst, ◌∙◌}
-use mathlib.Core.Bool.{true}
+use mathlib.Core.Bool.{Bool, true, ◌&&◌}
+use mathlib.Core.List.{List}
 use mathlib.Core.Logic.{◌↔◌}
 use native.Mathlib.Omega.{arith}
 use Rattle.model.specs.Prefix.{well_formed}
 use Rattle.model.specs.Ipv4.{Payload, may_hold}
 use Rattle.model.specs.Routes.{Route}
 use Rattle.model.specs.State.{good_payload}
-use Rattle.model.proofs.Tests.{not_both}
+use Rattle.model.proofs.Tests.{both, not_both}
+use Rattle.pool.specs.Layout.{held_prefix}
 use Rattle.pool.specs.Ipv4.{ipv4}
 use Rattle.pool.specs.Means.{PayloadThere}
 use Rattle.shape.proofs.Hanging.{refused}
 use Rattle.shape.proofs.chain.route_is_good.Goals as goal
-use Rattle.shape.proofs.chain.route_is_good.Goals.{After-payload_there}
-
-pub returns-then-capacity-i : goal.returns-then-capacity-i
-returns-then-capacity-i c = refused (λ f. omega (arith, f.in_pool))
+use Rattle.shape.proofs.chain.route_is_good.Goals.{Joined-well_formed, then-well_formed, else-well_formed}
+use Rattle.shape.proofs.chain.route_is_good.Goals.{then-capacity-place-via-then-capacity-place}
+use Rattle.shape.proofs.chain.route_is_good.Goals.{then-capacity-place-via-else-capacity-place+then-not-payload_there}
 
 -- the words of the place are a payload's
-there : (c : After-payload_there) → let args = c.args in (c.payload_there.result ≡ true) ↔ PayloadThere ipv4 args.pool.now (ipv4.seat args.place.0)
-there c =
-    let pool = c.args.pool.now in
-    subst (λ (n : ℕ). (c.payload_there.result ≡ true) ↔ PayloadThere ipv4 pool n) c.seat.ensures c.payload_there.ensures
+there : (pool : List ℕ) (seat i : ℕ) (b : Bool) → seat ≡ ipv4.seat i → (b ≡ true) ↔ PayloadThere ipv4 pool seat
+    → (b ≡ true) ↔ PayloadThere ipv4 pool (ipv4.seat i)
+there pool seat i b e h = subst (λ (n : ℕ). (b ≡ true) ↔ PayloadThere ipv4 pool n) e h
 
-pub returns-then-not-payload_there : goal.returns-then-not-payload_there
-returns-then-not-payload_there c =
-    refused (λ f. not_both ((there (goal.at.returns-then-not-payload_there c).After-payload_there).1 (f.used, f.known)) c.if-not-payload_there.true)
+pub returns-then-capacity-place : goal.returns-then-capacity-place
+returns-then-capacity-place c = refused (λ f. elim c.then-capacity-place.branch [
+  | then-capacity-place-via-then-capacity-place w ↦ omega (arith, f.in_pool, w.if-capacity-place.true)
+  | then-capacity-place-via-else-capacity-place+then-not-payload_there w ↦
+      not_both ((there _ _ _ _ w.seat.ensures w.payload_there.ensures).1 (f.used, f.known)) w.if-not-payload_there.true
+])
 
-pub returns-then-not-well_formed : goal.returns-then-not-well_formed
-returns-then-not-well_formed c =
-    let formed = ap (λ (r : Route Payload). well_formed 32 r.prefix) c.route_at-route.ensures in
-    let fails = sym c.well_formed-2.ensures ∙ c.if-not-well_formed.true in
-    refused (λ f. not_both (formed ∙ f.obeys.0) fails)
-
-pub returns-then-not-may_be_held : goal.returns-then-not-may_be_held
-returns-then-not-may_be_held c =
-    let holdable = ap (λ (r : Route Payload). may_hold r.prefix) c.route_at-route.ensures in
-    let fails = sym c.may_be_held.ensures ∙ c.if-not-may_be_held.true in
-    refused (λ f. not_both (holdable ∙ f.obeys.1) fails)
-
-pub returns : goal.returns
-returns c =
+-- the two tests of the prefix, of the place's
+tested : (c : Joined-well_formed) →
+    let prefix = held_prefix ipv4 c.args.pool.now c.args.place.0 in c.if-well_formed.value ≡ (well_formed 32 prefix && may_hold prefix)
+tested c =
+    let prefix = held_prefix ipv4 c.args.pool.now c.args.place.0 in
     let route = c.route_at-route.ensures in
-    let words = (there (goal.at.returns c).After-payload_there).0 c.if-not-payload_there.false in
-    let formed = sym c.well_formed-2.ensures ∙ c.if-not-well_formed.false in
-    let holdable = sym c.may_be_held.ensures ∙ c.if-not-may_be_held.false in
-    let good = c.is_good.ensures ∙ ap (λ (r : Route Payload). good_payload ipv4.rules r.prefix r.payload) route in (
-      λ t. record {
-        in_pool = omega arith;
-        used = words.0;
-        known = words.1;
-        obeys = (
-          sym (ap (λ (r : Route Payload). well_formed 32 r.prefix) route) ∙ formed,
-          sym (ap (λ (r : Route Payload). may_hold r.prefix) route) ∙ holdable,
-          sym good ∙ t,
-        );
-      },
+    let formed = c.well_formed-2.ensures ∙ ap (λ (r : Route Payload). well_formed 32 r.prefix) route in
+    elim c.if-well_formed.branch [
+      | then-well_formed w ↦
+          w.value-is
+          ∙ w.may_be_held.ensures
+          ∙ ap (λ (r : Route Payload). may_hold r.prefix) route
+          ∙ ap (λ (b : Bool). b && may_hold prefix) (sym w.if-well_formed.true ∙ formed)
+      | else-well_formed w ↦ w.value-is ∙ w.if-well_formed.false ∙ ap (λ (b : Bool). b && may_hold prefix) (sym w.if-well_formed.false ∙ formed)
+    ]
+
+pub returns-then-may_be_held : goal.returns-then-may_be_held
+returns-then-may_be_held c =
+    let words = (there _ _ _ _ c.seat.ensures c.payload_there.ensures).0 c.if-not-payload_there.false in
+    let prefix = both _ _ (sym (tested (goal.at.returns-then-may_be_held c).Joined-well_formed) ∙ c.if-may_be_held.true) in
+    let good = c.is_good.ensures ∙ ap (λ (r : Route Payload). good_payload ipv4.rules r.prefix r.payload) c.route_at-route.ensures in (
+      λ t. record { in_pool = omega arith; used = words.0; known = words.1; obeys = (prefix.0, prefix.1, sym good ∙ t) },
       λ f. good ∙ f.obeys.2,
     )
+
+pub returns-else-may_be_held : goal.returns-else-may_be_held
+returns-else-may_be_held c = (
+  λ t. absurd (not_both t c.if-may_be_held.false),
+  λ f. tested (goal.at.returns-else-may_be_held c).Joined-well_formed ∙ rw f.obeys.0 f.obeys.1,
+)

@@ -8,10 +8,10 @@ use Rattle.shape.proofs.tree.audit_root.Goals as goal
 pub returns-then-root-eq0 : goal.returns-then-root-eq0
 returns-then-root-eq0 c = root_none ipv4 _ _ _ refl c.if-root-eq0.true
 
-pub returns-in_default : goal.returns-in_default
-returns-in_default c =
-    root_bad ipv4 _ _ _ refl c.if-root-eq0.false c.in_default.ensures
+pub returns-in_err-span : goal.returns-in_err-span
+returns-in_err-span c =
+    rw c.from_residual.ensures (root_bad ipv4 _ _ _ refl c.if-root-eq0.false c.in_err-span.ensures)
 
 pub returns : goal.returns
 returns c =
-    root_fine ipv4 _ _ _ _ _ _ _ refl c.in-Fine.ensures
+    root_fine ipv4 _ _ _ _ _ _ _ refl c.in_ok-span.ensures

@@ -1,5 +1,5 @@
--- The loop's invariant: for every list of routes that the tree holds, the changes from `left` on are taken back, which leaves `held` routes
--- (`Standing`). The measure is how many are left. One that cannot be taken back stops it (`standing_stop`); with none left, `standing_end`.
+-- The loop's invariant: for every list of routes that the tree holds, the changes from `change` on are taken back, which leaves `held` routes
+-- (`Standing`). One that cannot be taken back stops it (`standing_stop`); with none left, `standing_end`.
 use Prim.Native.Nat.{◌≤◌}
 use mathlib.Core.Path.{◌≡◌}
 use mathlib.Core.List.{List}
@@ -11,10 +11,8 @@ use Rattle.standing.specs.Changes.{Tabled}
 use Rattle.standing.proofs.Turning.{Standing}
 use Rattle.standing.proofs.changes.can_take_back.Given as goal
 
-abbrev pub invariant-loop-left : goal.invariant-loop-left
-invariant-loop-left l =
-    (l.left ≤ l.standing) × (l.held ≤ l.capacity)
-    × ((routes : List (Route Payload)) → Tabled ipv4 l.capacity l.pool routes → l.routes ≡ length routes → Standing ipv4 l.capacity l.pool l.standing l.left l.held routes)
-
-abbrev pub decreases-loop-left : goal.decreases-loop-left
-decreases-loop-left l = l.left
+abbrev pub invariant-loop-change : goal.invariant-loop-change
+invariant-loop-change l =
+    (l.held ≤ l.capacity)
+    × ((routes : List (Route Payload)) → Tabled ipv4 l.capacity l.pool routes → l.routes ≡ length routes
+    → Standing ipv4 l.capacity l.pool l.standing l.change l.held routes)

@@ -7,25 +7,18 @@ use Rattle.shape.proofs.Hanging.{refused}
 use Rattle.standing.proofs.Recording.{changes_more}
 use Rattle.standing.proofs.changes.changes_are_good.Goals as goal
 
-pub loop-k-init : goal.loop-k-init
-loop-k-init c = (omega arith, λ k h. absurd (omega (arith, h)))
+pub loop-change-init : goal.loop-change-init
+loop-change-init c k h = absurd (omega (arith, h))
 
 pub returns-then-not-change_is_good : goal.returns-then-not-change_is_good
 returns-then-not-change_is_good c =
-    refused (λ f. not_both (c.change_is_good.ensures.1 (f c.loop-k.k c.loop-k-test.true)) c.if-not-change_is_good.true)
+    refused (λ f. not_both (c.change_is_good.ensures.1 (f c.loop-change.change c.loop-change-test.true)) c.if-not-change_is_good.true)
 
-pub overflow_add-k : goal.overflow_add-k
-overflow_add-k c = omega arith
-
-pub loop-k-smaller : goal.loop-k-smaller
-loop-k-smaller c = omega arith
-
-pub loop-k-preserved : goal.loop-k-preserved
-loop-k-preserved c =
-    (omega arith, changes_more ipv4 _ _ _ c.loop-k.invariant.1 (c.change_is_good.ensures.0 c.if-not-change_is_good.false))
+pub loop-change-preserved : goal.loop-change-preserved
+loop-change-preserved c = changes_more ipv4 _ _ _ c.loop-change.invariant (c.change_is_good.ensures.0 c.if-not-change_is_good.false)
 
 pub returns : goal.returns
 returns c =
     let args = c.args in
-    let all : c.loop-k.k ≡ args.standing = omega arith in
-    (λ t. subst (ChangesFine ipv4 args.capacity args.pool.now) all c.loop-k.invariant.1, λ f. refl)
+    let all : c.loop-change.change ≡ args.standing = omega arith in
+    (λ t. subst (ChangesFine ipv4 args.capacity args.pool.now) all c.loop-change.invariant, λ f. refl)

@@ -1,11 +1,7 @@
--- The loop's invariant: the changes below `k` are fine. The measure is how many are left. One that is not refuses all.
-use Prim.Native.Nat.{◌-◌, ◌≤◌}
+-- The loop's invariant: the changes below `change` are fine. One that is not refuses all.
 use Rattle.pool.specs.Ipv4.{ipv4}
 use Rattle.standing.specs.Changes.{ChangesFine}
 use Rattle.standing.proofs.changes.changes_are_good.Given as goal
 
-abbrev pub invariant-loop-k : goal.invariant-loop-k
-invariant-loop-k l = (l.k ≤ l.standing) × ChangesFine ipv4 l.capacity l.pool l.k
-
-abbrev pub decreases-loop-k : goal.decreases-loop-k
-decreases-loop-k l = l.standing - l.k
+abbrev pub invariant-loop-change : goal.invariant-loop-change
+invariant-loop-change l = ChangesFine ipv4 l.capacity l.pool l.change

@@ -8,9 +8,6 @@ use Rattle.undo.proofs.back.back_out.Goals as goal
 pub loop-pool-init : goal.loop-pool-init
 loop-pool-init c = (refl, λ s a. going_start ipv4 _ _ s a)
 
-pub bounds-pool-4 : goal.bounds-pool-4
-bounds-pool-4 c = omega arith
-
 pub step_back-requires : goal.step_back-requires
 step_back-requires c =
     let going = c.loop-pool.invariant.1 c.requires.accepted.0 c.requires.accepted.1 in
@@ -31,9 +28,6 @@ loop-pool-preserved c =
     let going = c.loop-pool.invariant.1 in
     let step = c.step_back.ensures in
     (omega arith, λ s a. (going_step ipv4 _ _ _ s (going s a) (λ z. omega (arith, z, c.loop-pool-test.true)) step).going)
-
-pub write_head-requires : goal.write_head-requires
-write_head-requires c = omega arith
 
 pub returns : goal.returns
 returns c =
