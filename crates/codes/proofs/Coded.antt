@@ -20,7 +20,7 @@ use Rattle.route.specs.declared.origin.Origin.{Origin}
 use Rattle.route.specs.declared.answer.Refusal.{Refusal}
 use Rattle.pool.specs.Ipv4.{ipv4}
 use Rattle.codes.specs.Codes.{prefix_in, hop_in, route_in, hop_words, origin_words}
-use Rattle.codes.specs.Out.{Out, Shows, value_words}
+use Rattle.codes.specs.Out.{Out, GoesOut, value_words}
 
 -- ---- hops
 
@@ -81,10 +81,10 @@ route_in_lem p h o e f d = rw (e, f, d)
 -- What goes out of an answer whose words are those of its value, and of which more is promised.
 pub out_shows : {A : Type 0} {P : ℕ → Value ModelPayload → Type 0} (answer : Result A Refusal) (words : Result (List ℕ) Refusal) (said : Result A Refusal → Value ModelPayload)
     {post : A → List ℕ → Type 0} {n : ℕ} {before after : List ℕ} → MatchResult answer (λ x. IsOkAnd words (post x)) (λ e. words ≡ Err e)
-    → ((x : A) (ws : List ℕ) → post x ws → ws ≡ value_words (said (Ok x))) → Shows words n before after → P (answer_number answer) (said answer)
+    → ((x : A) (ws : List ℕ) → post x ws → ws ≡ value_words (said (Ok x))) → GoesOut words n before after → P (answer_number answer) (said answer)
     → Out P n before after
 out_shows (Ok x) (Ok ws) said m f s p = record { shown = said (Ok x); promised = rw s.0 p; written = λ z. s.1 ∙ f x ws m; kept = λ z. absurd (z s.0) }
 out_shows (Ok x) (Err e) said m f s p = absurd m
 out_shows {P = P} (Err e) words said {n = n} {before = before} {after = after} m f s p =
-    let t = subst (λ (w : Result (List ℕ) Refusal). Shows w n before after) m s in
+    let t = subst (λ (w : Result (List ℕ) Refusal). GoesOut w n before after) m s in
     record { shown = said (Err e); promised = rw t.0 p; written = λ z. absurd (never_zero e (sym t.0 ∙ z)); kept = λ z. t.1 }

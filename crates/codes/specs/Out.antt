@@ -24,6 +24,6 @@ abbrev pub Exactly : ℕ → Value Payload → ℕ → Value Payload → Type 0
 Exactly m w n v = (n ≡ m) × (v ≡ w)
 
 -- The number of an answer, whose words go out on 0; a refusal leaves the out-parameter as it was.
-abbrev pub Shows : Result (List ℕ) Refusal → ℕ → List ℕ → List ℕ → Type 0
-Shows (Ok words) n before after = (n ≡ 0) × (after ≡ words)
-Shows (Err x) n before after = (n ≡ refusal_number x) × (after ≡ before)
+abbrev pub GoesOut : Result (List ℕ) Refusal → ℕ → List ℕ → List ℕ → Type 0
+GoesOut (Ok words) n before after = (n ≡ 0) × (after ≡ words)
+GoesOut (Err x) n before after = (n ≡ refusal_number x) × (after ≡ before)

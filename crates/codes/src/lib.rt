@@ -4,7 +4,7 @@
 ghost use Rattle.std.specs.Prelude.{◌≡◌, [], ◌∷◌};
 ghost use Rattle.route.specs.Means.{hop_of, origin_of, route_of};
 ghost use Rattle.codes.specs.Codes.{hop_in, route_in, hop_words, origin_words, route_words};
-ghost use Rattle.codes.specs.Out.{Shows};
+ghost use Rattle.codes.specs.Out.{GoesOut};
 
 use route::{Answer, Hop, Length, Origin, Payload, Port, Prefix, Route};
 
@@ -129,7 +129,7 @@ pub fn length_word(length: Length) -> [u32; 1]
 
 // The number of an answer. Its words, if it has any, go out.
 pub fn show<const N: usize>(answer: Answer<[u32; N]>, out: &mut [u32; N]) -> u32
-    ensures { Shows answer.entry result out.old out.new }
+    ensures { GoesOut answer.entry result out.old out.new }
 {
     match answer {
         Ok(words) => {

@@ -1,5 +1,6 @@
-// The answers as lines. None of it has a promise: it is lent the words to read, which is why they stay as they are, and what is printed
-// is compared with what a second program prints.
+// The answers as lines. None of the three that are public has a promise. They are lent the words to read, which is why those stay as they
+// are. They go on where a line can't be written, and what a failed write leaves no contract of a writer says, so that a clause has nothing
+// to say of the writer behind them. What is printed is compared with what a second program prints.
 use super::routes::{Words, list};
 use command::Command;
 use numeral::Fault;

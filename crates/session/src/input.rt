@@ -82,7 +82,7 @@ fn take<W: Write>(out: &mut W, words: &mut Words, line: &mut Line, block: &[u8],
 }
 
 // Every command of what is read, one a line. A last line without a newline counts. What a command does to the words is promised
-// where it is done (`perform::change`). Of a whole run nothing is: no contract can say which commands are read, and a row of
+// where it is done (`perform::change`). Of a whole run nothing is: which command a line makes has no promise (`command::parse`), and a row of
 // them with `poke` among them can leave any words.
 //
 // One read takes as many bytes as there are by then, so that a line that is typed is answered at once. A proved loop has to end, and nothing
