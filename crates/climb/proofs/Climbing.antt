@@ -11,9 +11,9 @@ use lib.ListN.{length, get_or}
 use Rattle.model.specs.Prefix.{Prefix, matches}
 use Rattle.model.specs.Routes.{Route}
 use Rattle.model.specs.Match.{best}
-use Rattle.model.specs.Call.{nothing, route}
-use Rattle.patricia.specs.Good.{Good}
-use Rattle.patricia.specs.Tree.{Entry, Tree, leaf, node, route_of, routes}
+use Rattle.model.specs.Call.{Value, nothing, route}
+use Rattle.patricia.specs.Good.{Good, RootGood}
+use Rattle.patricia.specs.Tree.{Entry, Tree, leaf, node, Root, route_of, routes, root_routes}
 use Rattle.patricia.specs.Obeys.{LongestFirst}
 use Rattle.patricia.specs.Way.{Step, went_left, went_right, Follows}
 use Rattle.patricia.proofs.Search.{first_match, leftmost_match, search, search_best}
@@ -21,16 +21,17 @@ use Rattle.patricia.proofs.Zip.{climb, climb_search}
 use Rattle.pool.specs.Layout.{Layout, root_in, held_prefix, next_at, left_at}
 use Rattle.pool.specs.Fit.{route_at}
 use Rattle.pool.specs.Link.{to_route}
-use Rattle.pool.specs.Holds.{Seat, Seated, bare, bare_entry, bare_entries, Chain, Holds}
+use Rattle.pool.specs.Holds.{Seat, Seated, bare, bare_root, bare_entry, bare_entries, Chain, Holds, HoldsRoot}
 use Rattle.pool.specs.declared.link.Place.{Place}
 use Rattle.pool.specs.declared.damage.Damage.{Damage}
+use Rattle.search.specs.Chain.{HungRight}
 use Rattle.search.specs.Down.{Kept, End, EndsAt, Ways}
 use Rattle.search.specs.Says.{Says}
 use Rattle.search.specs.Edge.{Rises, left_leaf, Leftmost}
-use Rattle.climb.specs.Climb.{Climbs}
+use Rattle.climb.specs.Climb.{Climbs, Looks}
 use Rattle.search.proofs.Bare.{bare_way, bare_follows, bare_longest}
-use Rattle.search.proofs.Led.{led_chain, led_bare, led_longest}
-use Rattle.search.proofs.Chain.{Behind, route_there, prefix_there, behind_start, behind_next, behind_last}
+use Rattle.search.proofs.Led.{led_not_empty, led_not_damaged, led_chain, led_bare, led_longest}
+use Rattle.search.proofs.Chain.{Behind, route_there, prefix_there, behind_start, behind_next, behind_last, behind_length}
 use Rattle.search.proofs.Left.{left_good}
 use Rattle.search.proofs.Rising.{side_of, WayHeld, part_held, rise_top, rise_at}
 
@@ -226,7 +227,16 @@ module _ {P : Type 0} (L : Layout P) where
           sum = v.sum ∙ ap (climb L.rules.width d (bare_way v.above)) (leftmost_leaf d v.side ∙ ap (λ (x : Seated P). leftmost_match L.rules.width d (bare x)) l.is);
         }
 
-    -- damage of the left side
+    -- damage: of the chain, and of the left side
+    pub climbs_broken : (i n : ℕ) {x : Damage} → Matching c ws d first i → n ≡ (held_prefix L ws i).length → HungRight L c ws i n (Err x)
+        → Climbs L c ws d 9 nothing
+    climbs_broken i n m e s = record {
+      loose = inr (inl refl);
+      exact = λ x h g. let k = all x h g in
+          let b = m k.address k.entries k.hangs k.longest in
+          absurd (s k.address b.rest b.hangs (behind_length L c ws (Matched d k.address) k.address i n k.entries b e));
+    }
+
     pub climbs_lost : (below : ℕ) {x : Damage} → Unmatched c ws d first → Rises L c ws d 1 inner level (Some below) → Leftmost L c ws (left_at L c ws (get_or inner below 0)) (Err x)
         → Climbs L c ws d 9 nothing
     climbs_lost below u s m = record {
@@ -236,3 +246,30 @@ module _ {P : Type 0} (L : Layout P) where
           let f = l.ends in
           absurd cc;
     }
+
+  -- ---- the whole pool
+
+  module _ (c : ℕ) (ws : List ℕ) (d : ℕ) (inner : List ℕ) (deep : ℕ) (stop : End) (ways : Ways L c ws d inner deep stop) where
+    pub looks_leaf : (p : Place) (n : ℕ) (v : Value P) → stop ≡ Ok (Some p) → Climbs L c ws d n v → Looks L c ws d n v
+    looks_leaf p n v e s = record { loose = s.loose; exact = go }
+      where
+        go : (t : Root ℕ (Seat P)) → HoldsRoot L c ws (root_in ws) t → RootGood L.rules.width (bare_root t)
+            → Says n v 13 (best L.rules.width d (root_routes (bare_root t)))
+        go none h g = let f = ways.empty h in absurd cc
+        go (some t) h g = s.exact t h g
+
+    pub looks_empty : stop ≡ Ok None → Looks L c ws d 13 nothing
+    looks_empty e = record { loose = inr (inr refl); exact = go }
+      where
+        go : (t : Root ℕ (Seat P)) → HoldsRoot L c ws (root_in ws) t → RootGood L.rules.width (bare_root t)
+            → Says {P = P} 13 nothing 13 (best L.rules.width d (root_routes (bare_root t)))
+        go none h g = (refl, refl)
+        go (some t) h g = absurd (led_not_empty L c ws d inner deep stop t (ways.leads t h g) e)
+
+    pub looks_damaged : {x : Damage} → stop ≡ Err x → Looks L c ws d 9 nothing
+    looks_damaged e = record { loose = inr (inl refl); exact = go }
+      where
+        go : (t : Root ℕ (Seat P)) → HoldsRoot L c ws (root_in ws) t → RootGood L.rules.width (bare_root t)
+            → Says {P = P} 9 nothing 13 (best L.rules.width d (root_routes (bare_root t)))
+        go none h g = let f = ways.empty h in absurd cc
+        go (some t) h g = absurd (led_not_damaged L c ws d inner deep stop t (ways.leads t h g) e)

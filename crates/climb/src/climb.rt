@@ -17,12 +17,12 @@ fn climb(pool: &[u32], capacity: usize, way: Way, leaf: Place, destination: u32)
     let inner = way.inner;
     let mut level = way.depth;
     let mut first = leaf;
-    loop {
+    'climb: loop {
         let mut place = first;
         loop {
             let route = pool::route_at(pool, place);
             if route.prefix.matches(destination) {
-                return Ok(route);
+                break 'climb Ok(route);
             }
             match follow(pool, capacity, place, route.prefix.length)? {
                 Some(next) => {

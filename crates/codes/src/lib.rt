@@ -131,11 +131,9 @@ pub fn length_word(length: Length) -> [u32; 1]
 pub fn show<const N: usize>(answer: Answer<[u32; N]>, out: &mut [u32; N]) -> u32
     ensures { GoesOut answer.entry result out.old out.new }
 {
-    match answer {
-        Ok(words) => {
-            *out = words;
-            0
-        }
-        Err(refusal) => refusal.number(),
-    }
+    let Ok(words) = answer else {
+        return route::number(answer);
+    };
+    *out = words;
+    0
 }

@@ -8,17 +8,17 @@ use Rattle.search.specs.Down.{AllUsable}
 use Rattle.climb.proofs.Climbing.{Matching, AllClimbing}
 use Rattle.climb.proofs.climb.climb.Given as goal
 
-abbrev pub invariant-loop-inner-2 : goal.invariant-loop-inner-2
-invariant-loop-inner-2 l =
-    (l.place.0 < l.capacity) × Matching ipv4 l.capacity l.pool l.destination l.initial.place.0 l.place.0
-
-abbrev pub decreases-loop-inner-2 : goal.decreases-loop-inner-2
-decreases-loop-inner-2 l = (held_prefix ipv4 l.pool l.place.0).length
-
 abbrev pub invariant-loop-inner : goal.invariant-loop-inner
 invariant-loop-inner l =
+    (l.place.0 < l.capacity) × Matching ipv4 l.capacity l.pool l.destination l.initial.place.0 l.place.0
+
+abbrev pub decreases-loop-inner : goal.decreases-loop-inner
+decreases-loop-inner l = (held_prefix ipv4 l.pool l.place.0).length
+
+abbrev pub invariant-climb : goal.invariant-climb
+invariant-climb l =
     (l.level ≤ 32) × AllUsable ipv4 l.capacity l.pool l.inner l.level × (l.first.0 < l.capacity)
     × AllClimbing ipv4 l.capacity l.pool l.destination l.inner l.level l.first.0
 
-abbrev pub decreases-loop-inner : goal.decreases-loop-inner
-decreases-loop-inner l = l.level
+abbrev pub decreases-climb : goal.decreases-climb
+decreases-climb l = l.level
