@@ -37,6 +37,12 @@ kept_from f a (suc n) b e = go (f a) refl (kept_from f (a + 1) n b (omega (arith
 pub kept_tally : (f : ℕ → Bool) (n : ℕ) → length (filter f (range_with_len 0 n)) ≡ tally f n
 kept_tally f n = omega (arith, kept_from f 0 n n (omega arith))
 
+pub tally_more : (f : ℕ → Bool) (i n m : ℕ) → n ≡ tally f i → f i ≡ true → m ≡ n + 1 → m ≡ tally f (i + 1)
+tally_more f i n m e t p = rw (add-one i) (rw t (p ∙ add-one n ∙ ap suc e))
+
+pub tally_same : (f : ℕ → Bool) (i n m : ℕ) → n ≡ tally f i → f i ≡ false → m ≡ n → m ≡ tally f (i + 1)
+tally_same f i n m e t p = rw (add-one i) (rw t (p ∙ e))
+
 -- a number that is not 0 passes
 pub passes : (n : ℕ) → (n ≡ 0 → ⊥) → not (eqb n 0) ≡ true
 passes n f = rw (ne_eqb n 0 f)

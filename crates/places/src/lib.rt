@@ -32,9 +32,14 @@ pub fn used(pool: &[u32], capacity: usize, sort: Sort) -> usize
     requires { Fit ipv4 capacity pool.now }
     ensures { result ≡ tally (is_used ipv4 capacity pool.now sort) capacity }
 {
-    (0..capacity)
-        .filter(|at| mark_of(pool, capacity, sort, Place(*at)) != 0)
-        .count()
+    let mut count = 0;
+    for at in 0..capacity {
+        let is_used = mark_of(pool, capacity, sort, Place(at)) != 0;
+        if is_used {
+            count += 1;
+        }
+    }
+    count
 }
 
 // A free place of a sort. None is listed anywhere, so the marks are looked along.

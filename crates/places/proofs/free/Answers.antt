@@ -1,6 +1,7 @@
--- What `find` gives has the closure's yes, so its mark is 0. If it gives none, each mark is at least 1, which the caller rules out.
+-- If `find` gave none, the closure's no at each place would say that its mark is at least 1, which the caller rules out. That the mark of what it
+-- gives is 0, the closure's yes, is no part of it: `returns` needs that alone.
 use Prim.Native.Nat.{ℕ, ◌≤◌}
-use mathlib.Core.Path.{◌≡◌, refl}
+use mathlib.Core.Path.{refl}
 use native.Mathlib.Omega.{arith}
 use borrow.Author.Tests.{tests}
 use Rattle.std.proofs.Common.{rules}
@@ -19,6 +20,6 @@ pub unwrap-requires : goal.unwrap-requires
 unwrap-requires c =
     let mark = mark_of ipv4 c.args.capacity c.args.pool.now c.args.sort in
     some_if _ _ _
-    (first_from_Range _ _ _ _ (λ i. mark i ≡ 0) (λ i. 1 ≤ mark i) c.find-found.ensures.ran
-    (λ x q k. search (rules, tests)) (λ x q k. search (rules, tests)))
+    (first_from_Range _ _ _ _ (λ i. 0 ≤ i) (λ i. 1 ≤ mark i) c.find-found.ensures.ran
+    (λ x q k. omega arith) (λ x q k. search (rules, tests)))
     (λ none. c.requires.spare (λ i below. none i (omega arith) below))

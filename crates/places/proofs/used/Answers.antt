@@ -1,18 +1,22 @@
--- What the filter keeps of the places is what `is_used` passes, and `kept_tally` says that their number is the tally.
-use mathlib.Core.Path.{◌∙◌}
+-- A place that is used is one more, `tally_more`, any other none, `tally_same`. A tally is no more than the places, so the count can't wrap: `tally_le`.
+use mathlib.Core.Path.{sym, ◌∙◌}
 use native.Mathlib.Omega.{arith}
-use borrow.Author.Tests.{tests}
-use Rattle.std.proofs.Common.{rules}
-use Rattle.std.proofs.lemmas.Iterator.{YieldsList-from_range}
-use Rattle.std.proofs.lemmas.Iterator.Consumers.{YieldsList-from_filter, count_from_yields_List}
 use Rattle.pool.specs.Ipv4.{ipv4}
 use Rattle.places.specs.Marks.{is_used}
-use Rattle.places.proofs.Tally.{kept_tally}
+use Rattle.places.proofs.Tally.{tally_more, tally_same, tally_le, passes, passes_not}
 use Rattle.places.proofs.used.Goals as goal
+use Rattle.places.proofs.used.Goals.{then-is_used, else-is_used}
 
-pub returns : goal.returns
-returns c =
-    let test = is_used ipv4 c.args.capacity c.args.pool.now c.args.sort in
-    let places = YieldsList-from_range {s = c.filter.result.iter} 0 c.args.capacity c.args.capacity (search rules) (omega arith) in
-    count_from_yields_List _ _ c.count.ensures.ran (YieldsList-from_filter _ test places c.filter.ensures.closure (λ x b q k. search (rules, tests)))
-    ∙ kept_tally test c.args.capacity
+pub overflow_add-count : goal.overflow_add-count
+overflow_add-count c =
+    omega (arith, tally_le (is_used ipv4 c.args.capacity c.args.pool.now c.args.sort) c.loop-at.at, c.loop-at.invariant)
+
+pub loop-at-preserved : goal.loop-at-preserved
+loop-at-preserved c =
+    let read = c.mark_of-is_used.ensures in
+    let more = tally_more (is_used ipv4 c.args.capacity c.args.pool.now c.args.sort) c.loop-at.at _ _ c.loop-at.invariant in
+    let same = tally_same (is_used ipv4 c.args.capacity c.args.pool.now c.args.sort) c.loop-at.at _ _ c.loop-at.invariant in
+    elim c.if-is_used.branch [
+      | then-is_used w ↦ more (passes _ (λ e. w.if-is_used.true (read ∙ e))) w.count-is
+      | else-is_used w ↦ same (passes_not _ (sym read ∙ w.if-is_used.false)) w.count-is
+    ]
