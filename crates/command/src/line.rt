@@ -39,14 +39,9 @@ fn begun(verb: &[u8], line: &mut Line) -> Result<Command, Fault> {
     }
 }
 
-// The command of a line. A word behind its last is one too many, which is told only if nothing else is wrong.
-fn read(mut line: Line) -> Result<Command, Fault> {
-    let verb = line.word();
-    if verb.is_empty() {
-        return Ok(Command::Nothing);
-    }
-    line.skip();
-    let command = begun(verb, &mut line)?;
+// The command that a line's first word begins, whole: a word behind its last is one too many, which is told only if nothing else is wrong.
+fn whole(verb: &[u8], line: &mut Line) -> Result<Command, Fault> {
+    let command = begun(verb, line)?;
     if !line.word().is_empty() {
         return Err(Fault::TooManyWords);
     }
@@ -56,5 +51,11 @@ fn read(mut line: Line) -> Result<Command, Fault> {
 // The command of a line, whatever bytes it has. It ends and reads only the line; which command it is has no promise, since the
 // grammar stated in a contract would be this code again. The second program, written apart, is held to it.
 pub fn parse(text: &[u8]) -> Command {
-    read(Line::new(text)).unwrap_or_else(Command::Wrong)
+    let mut line = Line::new(text);
+    let verb = line.word();
+    if verb.is_empty() {
+        return Command::Nothing;
+    }
+    line.skip();
+    whole(verb, &mut line).unwrap_or_else(Command::Wrong)
 }

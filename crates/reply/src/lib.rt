@@ -1,6 +1,7 @@
 // The answers to commands as text, by reading the words only.
 #![tactic(auto)]
 
+mod line;
 mod routes;
 mod show;
 

@@ -8,6 +8,7 @@ ghost use Rattle.pool.specs.Ipv4.{ipv4 as words4};
 ghost use Rattle.promise.specs.Promise.{Meant};
 ghost use Rattle.promise.specs.Trees.{tree};
 
+use super::line::line;
 use route::Answer;
 use std::io::Write;
 
@@ -21,7 +22,7 @@ fn walk<W: Write>(out: &mut W, words: &Words) {
         let Ok(route) = at else {
             return;
         };
-        let _ = writeln!(out, "{route}");
+        line(out, &route);
         at = table::next(words, route.prefix);
     }
 }
@@ -36,12 +37,11 @@ pub fn list<W: Write>(out: &mut W, words: &Words) -> Answer<u32>
         Ok(_) => {
             let count = words[pool::AT_COUNT];
             let capacity = words[pool::AT_CAPACITY];
-            let _ = writeln!(out, "routes {count} of {capacity}");
+            line(out, &format_args!("routes {count} of {capacity}"));
             walk(out, words);
         }
         Err(refusal) => {
-            let number = refusal.number();
-            let _ = writeln!(out, "{number}");
+            line(out, &refusal.number());
         }
     }
     room
