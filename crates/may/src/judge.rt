@@ -30,7 +30,8 @@ fn guarded_in(own: &[u32], capacity: usize, by: Hand, prefix: Prefix) -> bool
             let payload = pool::payload_at(own, pool::seat(place));
             payload.origin.hand().guards(by)
         }
-        _ => false,
+        Ok(None) => false,
+        Err(_) => false,
     }
 }
 

@@ -15,8 +15,8 @@ returns-in-Ok-Some c =
     let made = c.hand.ensures ∙ ap (λ (h : Payload). ipv4.rules.hand h) read in
     guarded_at ipv4 _ _ _ _ _ _ (rw c.in-Ok-Some.field-0-is at c.in-Ok-Some.ensures) (c.guards.ensures ∙ ap (λ (h : Hand). guards h (hand_is args.by)) made)
 
-pub returns-in_default : goal.returns-in_default
-returns-in_default c = guarded_not ipv4 _ _ _ _ _ c.in_default.ensures (search rules)
+pub returns-in-Ok-None : goal.returns-in-Ok-None
+returns-in-Ok-None c = guarded_not ipv4 _ _ _ _ _ c.in-Ok-None.ensures (search rules)
 
-pub returns-in_default-2 : goal.returns-in_default-2
-returns-in_default-2 c = guarded_not ipv4 _ _ _ _ _ (rw c.in_default.is at c.find.ensures) refl
+pub returns-in-Err : goal.returns-in-Err
+returns-in-Err c = guarded_not ipv4 _ _ _ _ _ c.in-Err.ensures refl
