@@ -10,17 +10,17 @@ use Rattle.std.specs.Prelude.{Result, Ok, Err}
 use Rattle.model.specs.Prefix.{well_formed}
 use Rattle.model.specs.Ipv4.{Hop as ModelHop, direct, via, reject, Origin as ModelOrigin, fixed, learned, Payload as ModelPayload, good_hop, may_hold}
 use Rattle.model.specs.State.{State}
-use Rattle.model.specs.Call.{add, change, Value, number}
+use Rattle.model.specs.Call.{add, change, Value, nothing, number}
 use Rattle.route.specs.Means.{prefix_of, hop_of, origin_of, route_of}
 use Rattle.route.proofs.Laws.{never_zero}
-use Rattle.route.specs.Answers.{answer_number}
+use Rattle.route.specs.Answers.{refusal_number, answer_number}
 use Rattle.route.specs.declared.prefix.Prefix.{Prefix}
 use Rattle.route.specs.declared.hop.Hop.{Hop}
 use Rattle.route.specs.declared.origin.Origin.{Origin}
 use Rattle.route.specs.declared.answer.Refusal.{Refusal}
 use Rattle.pool.specs.Ipv4.{ipv4}
 use Rattle.codes.specs.Codes.{prefix_in, hop_in, route_in, hop_words, origin_words}
-use Rattle.codes.specs.Out.{Out, GoesOut, value_words}
+use Rattle.codes.specs.Out.{Out, Exactly, GoesOut, value_words}
 
 -- ---- hops
 
@@ -88,3 +88,18 @@ out_shows (Ok x) (Err e) said m f s p = absurd m
 out_shows {P = P} (Err e) words said {n = n} {before = before} {after = after} m f s p =
     let t = subst (λ (w : Result (List ℕ) Refusal). GoesOut w n before after) m s in
     record { shown = said (Err e); promised = rw t.0 p; written = λ z. absurd (never_zero e (sym t.0 ∙ z)); kept = λ z. t.1 }
+
+-- a refusal, with nothing written
+pub out_refused : {P : ℕ → Value ModelPayload → Type 0} (x : Refusal) {m n : ℕ} {w : Value ModelPayload} {before : List ℕ} → m ≡ refusal_number x
+    → w ≡ nothing → n ≡ m → P m w → Out P n before before
+out_refused x {w = w} e f g p = record { shown = w; promised = rw g p; written = λ z. absurd (never_zero x (sym e ∙ sym g ∙ z)); kept = λ z. refl }
+
+-- an answer, written
+pub out_shown : {P : ℕ → Value ModelPayload → Type 0} (v : Value ModelPayload) {m : ℕ} {w : Value ModelPayload} {before after : List ℕ} → m ≡ 0 → w ≡ v
+    → after ≡ value_words v → P m w → Out P 0 before after
+out_shown v {w = w} e f g p = record { shown = w; promised = rw e at p; written = λ z. rw f g; kept = λ z. absurd (z refl) }
+
+-- what was shown of an answer, of which more is promised
+pub out_of : {P : ℕ → Value ModelPayload → Type 0} {m n : ℕ} {w : Value ModelPayload} {before after : List ℕ} → Out (Exactly m w) n before after → P m w
+    → Out P n before after
+out_of o p = record { shown = o.shown; promised = rw (o.promised.0, o.promised.1) p; written = o.written; kept = o.kept }

@@ -11,6 +11,7 @@ use lib.ListN.{length, get_or, take, drop, get_or-append}
 use lib.Seq.{length-take-le, length_front, get_or-append-add, get_or-drop}
 use Rattle.model.specs.Call.{Call, nothing, accepted, shown}
 use Rattle.pool.specs.Layout.{word, Layout, size, capacity_in}
+use Rattle.pool.specs.Fit.{Fit}
 use Rattle.pool.specs.Means.{Means}
 use Rattle.pool.proofs.Local.{means_frame}
 use Rattle.pool.proofs.Laid.{Laid}
@@ -24,14 +25,22 @@ use Rattle.verdict.specs.Own.{OwnRight}
 use Rattle.may.specs.May.{MayRight}
 use Rattle.std.specs.Prelude.{Ok, Err}
 use Rattle.promise.proofs.Promises.{meant_one, promise_of, refused_value, refused_next}
-use Rattle.verdict.proofs.Lent.{own_in, own_sound, sound_own}
+use Rattle.verdict.proofs.Lent.{own_in, own_fits, own_sound, sound_own}
 
 module _ {P : Type 0} (L : Layout P) (laid : Laid L) where
+  -- ---- it goes on
+
+  pub goes_small : (call : Call P) (ws : List ℕ) (c : ℕ) → MayRight (tree L) call ws (Ok c) → c ≤ 65535
+  goes_small call ws c g = omega (arith, laid.limit_small, (sound_own L ws c (g.0, g.1, g.2)).1)
+
   module _ (call : Call P) (ws : List ℕ) (c n : ℕ) (g : MayRight (tree L) call ws (Ok c)) (e : n ≡ size L c) where
     own : OwnRight (tree L) ws (Ok c)
     own = sound_own L ws c (g.0, g.1, g.2)
 
-    goes_in : n ≤ length ws
+    pub goes_fit : Fit L c (take n ws)
+    goes_fit = own_fits L laid ws c n own e
+
+    pub goes_in : n ≤ length ws
     goes_in = own_in L ws c n own e
 
     pub goes_accepted : Accepted L c call (take n ws)

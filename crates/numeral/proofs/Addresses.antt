@@ -1,10 +1,10 @@
--- An octet past 255, and four of them, over plain values.
+-- One octet read, the next, and four of them, over plain values.
 use Prim.Native.Nat.{ℕ, ◌+◌, ◌-◌, ◌*◌, ◌≤◌, ◌<◌}
 use mathlib.Core.Path.{◌≡◌, refl, ap}
 use mathlib.Core.List.{List}
 use native.Mathlib.Omega.{arith}
 use lib.ListN.{length, take, drop}
-use Rattle.std.specs.Prelude.{Some, None}
+use Rattle.std.specs.Prelude.{Option, Some, None}
 use Rattle.numeral.specs.Decimal.{Spells, done, digit, ReadAs}
 use Rattle.numeral.specs.Words.{index_of}
 use Rattle.numeral.specs.Octets.{Octet, Dotted, dot_from, up_to_dot, OctetAt, NextAt}
@@ -23,8 +23,28 @@ module _ (s : List ℕ) (from end : ℕ) (to_dot : end ≡ dot_from s from) wher
       let many : end - from ≡ index_of 46 (drop from s) = omega (arith, to_dot) in
       ap (λ (n : ℕ). take n (drop from s)) many
 
+  pub no_octet : ReadAs (take (end - from) (drop from s)) None → (n : ℕ) → Octet (up_to_dot s from) n → ⊥
+  no_octet h n o = let r : ReadAs (up_to_dot s from) None = rw piece at h in r n o.0 o.1 (omega (arith, o.2))
+
   pub high_octet : (m : ℕ) → ReadAs (take (end - from) (drop from s)) (Some m) → 255 < m → (n : ℕ) → Octet (up_to_dot s from) n → ⊥
   high_octet m h l n o = let r : ReadAs (up_to_dot s from) (Some m) = rw piece at h in omega (arith, spells_one o.1 r.1, o.2, l)
+
+  pub octet_read : (m before : ℕ) → ReadAs (take (end - from) (drop from s)) (Some m) → m ≤ 255
+      → OctetAt s from before (Some (before * 256 + m, end))
+  octet_read m before h l = let r : ReadAs (up_to_dot s from) (Some m) = rw piece at h in ((m, (r.0, r.1, l), refl), to_dot)
+
+-- ---- one behind a dot
+
+pub next_read : (s : List ℕ) (dot before : ℕ) (r : Option (ℕ × ℕ)) → dot < length s → OctetAt s (dot + 1) before r → NextAt s dot before r
+next_read s dot before (Some (v, end)) h o = (h, o)
+next_read s dot before None h o = λ l. o
+
+-- how large the number is with the first, and with one more
+pub first_fits : (s : List ℕ) (v end : ℕ) → OctetAt s 0 0 (Some (v, end)) → v ≤ 255
+first_fits s v end o = omega (arith, o.0.2, o.0.1.2)
+
+pub next_fits : (s : List ℕ) (dot before v end most : ℕ) → NextAt s dot before (Some (v, end)) → before ≤ most → v ≤ most * 256 + 255
+next_fits s dot before v end most o h = omega (arith, o.1.0.2, o.1.0.1.2, h)
 
 -- ---- four of them
 

@@ -25,8 +25,19 @@ grows (digit low high h) = omega (arith, grows h)
 
 module _ (s : List ℕ) (i value : ℕ) (inside : i < length s) (f : SoFar s i value) where
   -- if all of them spell a number, the next is a digit
-  next : (n : ℕ) → Spells 0 s n → (48 ≤ get_or s i 0) × (get_or s i 0 ≤ 57) × Spells (value * 10 + (get_or s i 0 - 48)) (drop (i + 1) s) n
+  pub next : (n : ℕ) → Spells 0 s n → (48 ≤ get_or s i 0) × (get_or s i 0 ≤ 57) × Spells (value * 10 + (get_or s i 0 - 48)) (drop (i + 1) s) n
   next n h = rw (add-one i) (front (rw (drop-cons s i 0 inside) at (f.rest n h)))
+
+  -- a digit more
+  pub digit_more : (d : ℕ) → 48 ≤ get_or s i 0 → get_or s i 0 ≤ 57 → d ≡ get_or s i 0 - 48 → SoFar s (i + 1) (value * 10 + d)
+  digit_more d low high e = record {
+    whole = λ n h. f.whole n (rw (drop-cons s i 0 inside) (digit low high (rw e at (rw (add-one i) at h))));
+    rest = λ n h. rw e (next n h).2;
+  }
+
+  -- a number that has become too great
+  pub past_the_most : (d : ℕ) → d ≡ get_or s i 0 - 48 → 4294967295 < value * 10 + d → (n : ℕ) → 0 < length s → Spells 0 s n → n ≤ 4294967295 → ⊥
+  past_the_most d e high n some h fits = omega (arith, grows (next n h).2, e, high, fits)
 
   -- a byte that is no digit
   pub no_digit : ((48 ≤ get_or s i 0) × (get_or s i 0 ≤ 57) → ⊥) → ReadAs s None

@@ -1,15 +1,17 @@
 -- How far blanks and words go, over plain values.
 use Prim.Native.Nat.{ℕ, zero, suc, ◌+◌, ◌-◌, ◌≤◌, ◌<◌, min}
 use mathlib.Core.Path.{◌≡◌, refl, sym, ap, ◌∙◌}
-use mathlib.Core.Bool.{Bool, true, false}
+use mathlib.Core.Bool.{Bool, true, false, not, beq}
 use mathlib.Core.List.{List, [], ◌∷◌}
 use mathlib.Core.Logic.{◌⊎◌, inl, inr}
+use native.Mathlib.Numerals.{add-one}
 use native.Mathlib.Omega.{arith}
-use borrow.Author.Tests.{eq-eqb, ne_eqb}
+use borrow.Author.Tests.{eq-eqb, ne_eqb, not-true, not-false}
+use lib.Dec.{eqb}
 use lib.ListN.{length, take, drop, get_or, length-drop, drop_of_length-le}
-use lib.Seq.{take_all, drop-drop}
+use lib.Seq.{take_all, take-length, drop-length, drop-cons, drop-drop}
 use Rattle.bits.proofs.Cases.{lt_or_le}
-use Rattle.numeral.specs.Words.{index_of, fits, leading, from_word, word_at, Behind}
+use Rattle.numeral.specs.Words.{index_of, is_blank, fits, leading, from_word, word_at, Behind}
 
 -- what stands from a place on, as a slice of it is
 abbrev pub rest_of : List ℕ → ℕ → List ℕ
@@ -35,6 +37,20 @@ pub nowhere : (b : ℕ) → index_of b [] ≡ 0
 unfolding index_of
 nowhere b = refl
 
+module _ (b : ℕ) (s : List ℕ) (i : ℕ) where
+  pub looks_on : i < length s → (get_or s i 0 ≡ b → ⊥) → index_of b (drop i s) ≡ suc (index_of b (drop (i + 1) s))
+  looks_on h n = rw (add-one i, drop-cons s i 0 h) (later b (get_or s i 0) (drop (suc i) s) n)
+
+  pub stands : i < length s → get_or s i 0 ≡ b → index_of b (drop i s) ≡ 0
+  stands h e = rw (drop-cons s i 0 h) (at_once b (get_or s i 0) (drop (suc i) s) e)
+
+  pub stands_nowhere : length s ≤ i → index_of b (drop i s) ≡ 0
+  stands_nowhere h = rw (drop_of_length-le s h) (nowhere b)
+
+-- looked for up to the length, it is looked for to the end
+pub found_at : (b : ℕ) (s : List ℕ) (from end : ℕ) → end ≡ from + index_of b (drop from (take (length s) s)) → end ≡ from + index_of b (drop from s)
+found_at b s from end e = e ∙ ap (λ (t : List ℕ). from + index_of b (drop from t)) (take-length s)
+
 -- other bytes stand before a place, and there it stands or is the end
 first_at : (b : ℕ) (s : List ℕ) (k : ℕ) → k ≤ length s
     → ((j : ℕ) → j < k → get_or s j 0 ≡ b → ⊥) → (k < length s → get_or s k 0 ≡ b) → k ≡ index_of b s
@@ -51,6 +67,26 @@ first_from b s i k h before there =
     ap (λ (n : ℕ). i + n) (first_at b (rest_of s i) k h before there ∙ ap (index_of b) (rest-is s i))
 
 -- ---- blanks
+
+pub blank_space : (b : ℕ) → b ≡ 32 → eqb b 32 ≡ is_blank b
+blank_space b e = rw (eq-eqb b 32 e)
+
+pub blank_other : (b : ℕ) → (b ≡ 32 → ⊥) → eqb b 9 ≡ is_blank b
+blank_other b n = rw (ne_eqb b 32 n)
+
+module _ (s : List ℕ) (i : ℕ) (blank x : Bool) (h : i < length s) (e : x ≡ is_blank (get_or s i 0)) where
+  pub goes_on : not (beq x blank) ≡ false → leading blank (drop i s) ≡ suc (leading blank (drop (i + 1) s))
+  goes_on t =
+      let f : beq (is_blank (get_or s i 0)) blank ≡ true = rw e at (not-false (beq x blank) t) in
+      rw (add-one i, drop-cons s i 0 h, f) refl
+
+  pub stops : not (beq x blank) ≡ true → leading blank (drop i s) ≡ 0
+  stops t =
+      let f : beq (is_blank (get_or s i 0)) blank ≡ false = rw e at (not-true (beq x blank) t) in
+      rw (drop-cons s i 0 h, f) refl
+
+pub ends : (s : List ℕ) (i : ℕ) (blank : Bool) → length s ≤ i → leading blank (drop i s) ≡ 0
+ends s i blank h = rw (drop_of_length-le s h) refl
 
 -- the bytes before a place fit, and the one there, if it isn't the end, doesn't
 leading-is : (blank : Bool) (s : List ℕ) (k : ℕ) → k ≤ length s
@@ -75,6 +111,24 @@ module _ (blank : Bool) (s : List ℕ) (i k : ℕ) (h : k ≤ length (rest_of s 
   passed = sym (drop-drop k i s) ∙ ap (λ (n : ℕ). drop n (drop i s)) many
 
 -- ---- words
+
+pub past_line : (s : List ℕ) (from : ℕ) → length s < from → drop (length s) s ≡ from_word s from
+past_line s from h =
+    let none : drop from s ≡ [] = drop_of_length-le s {i = from} (omega (arith, h)) in
+    rw (drop-length s, none) refl
+
+pub in_line : (s : List ℕ) (from start : ℕ) → start ≡ from + leading true (drop from s) → drop start s ≡ from_word s from
+in_line s from start e = rw e (sym (drop-drop (leading true (drop from s)) from s))
+
+-- from a place where the word begins to one behind its last byte
+module _ (s : List ℕ) (from start end : ℕ) (e : drop start s ≡ from_word s from) (f : end ≡ start + leading false (drop start s)) where
+  pub word_between : take (end - start) (drop start s) ≡ word_at s from
+  word_between =
+      let many : end - start ≡ leading false (drop start s) = omega (arith, f) in
+      rw (many, e) refl
+
+  pub behind_word : end ≤ length s → Behind s from end
+  behind_word h = (h, rw f (sym (drop-drop (leading false (drop start s)) start s) ∙ ap (λ (t : List ℕ). drop (leading false t) t) e))
 
 -- past the end nothing stands, as at the end
 same_rest : (s : List ℕ) (at from : ℕ) → from ≡ min at (length s) → drop from s ≡ drop at s

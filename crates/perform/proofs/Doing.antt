@@ -2,13 +2,26 @@
 use Prim.Native.Nat.{ℕ}
 use mathlib.Core.Path.{◌≡◌, refl, sym, subst}
 use mathlib.Core.List.{List}
+use Rattle.std.specs.Prelude.{Result}
+use Rattle.model.specs.Ipv4 as ipv4
+use Rattle.model.specs.Call as call
+use Rattle.route.specs.Answers.{answer_number}
+use Rattle.route.specs.declared.answer.Refusal.{Refusal}
+use Rattle.pool.specs.Ipv4.{ipv4 as words4}
+use Rattle.promise.specs.Promise.{Promise}
+use Rattle.promise.specs.Trees.{tree}
 use Rattle.command.specs.declared.asked.Command.{Command}
 use Rattle.perform.specs.declared.Changed.{Changed}
-use Rattle.perform.specs.Performs.{Performs}
+use Rattle.perform.specs.Performs.{Calls, Performs}
 
 -- once the command is known
 pub known : {k k' : Command} (ws zs : List ℕ) (r : Changed) → k ≡ k' → Performs k' ws zs r → Performs k ws zs r
 known ws zs r e d = subst (λ (x : Command). Performs x ws zs r) (sym e) d
+
+-- the answer of a call, by its number
+pub calls : {c : call.Call ipv4.Payload} {ws zs : List ℕ} {a : Result (Unit {0}) Refusal} {m : ℕ} → answer_number a ≡ m
+    → Promise (tree words4) c ws zs m call.nothing → Calls c ws zs (Changed.Answered a)
+calls {a = a} e p = (a, refl, rw e p)
 
 -- a command that is none of those which change a word
 pub keeps : (ws : List ℕ) (k : Command)

@@ -14,8 +14,8 @@ use Rattle.patricia.specs.Way.{Step, went_left, went_right, plug, Follows, NotPa
 use Rattle.pool.specs.Layout.{Layout, mark_at}
 use Rattle.pool.specs.Holds.{Seat, Seated}
 use Rattle.pool.specs.Fit.{Fit}
-use Rattle.pool.proofs.Laid.{Laid, joint_in}
-use Rattle.search.specs.Down.{Kept}
+use Rattle.pool.proofs.Laid.{Laid, head_in, joint_in}
+use Rattle.search.specs.Down.{Kept, Usable}
 use Rattle.plan.specs.Cells.{cell_of, cell_at}
 use Rattle.plan.specs.Steps.{WayUsable, CellRight, LevelRight}
 use Rattle.plan.proofs.Way.{HoldsWay}
@@ -23,6 +23,15 @@ use Rattle.plan.proofs.Way.{HoldsWay}
 -- ---- what the code works out
 
 module _ {P : Type 0} (L : Layout P) (laid : Laid L) (c : ℕ) (ws inner : List ℕ) where
+  pub fewer : (n m : ℕ) → m ≤ n → WayUsable L c ws inner n → WayUsable L c ws inner m
+  fewer n m h u = record { shallow = omega (arith, u.shallow); usable = λ k l. u.usable k (omega arith) }
+
+  pub last_usable : (n : ℕ) → (n ≡ 0 → ⊥) → WayUsable L c ws inner n → Usable L c ws (get_or inner (n - 1) 0)
+  last_usable n z u = u.usable (n - 1) (omega arith)
+
+  pub cell_root : (n a : ℕ) → Fit L c ws → n ≡ 0 → CellRight L c ws inner n a 2
+  cell_root n a f e = record { cell_is = ap (λ (m : ℕ). cell_at L c ws inner m a) (sym e); in_pool = omega (arith, f.1, head_in laid c) }
+
   pub cell_side : (n a r : ℕ) → Fit L c ws → WayUsable L c ws inner n → (n ≡ 0 → ⊥)
       → r ≡ L.joint c (get_or inner (n - 1) 0) + 1 + bit L.rules.width (mark_at L c ws (get_or inner (n - 1) 0) - 1) a → CellRight L c ws inner n a r
   cell_side zero a r f u z e = absurd (z refl)

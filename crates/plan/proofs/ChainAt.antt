@@ -47,6 +47,9 @@ module _ {P : Type 0} (L : Layout P) where
     abbrev pub CellFrom : ℕ → Type 0
     CellFrom cell = (cell ≡ from) ⊎ ((p : ℕ) × (p < c) × (cell ≡ L.seat p + L.next_offset))
 
+    pub chain_start : (first : ℕ) → AllAt first from (to_route first)
+    chain_start first a es h s = record { longer = []; rest = es; whole = refl; cell_is = refl; longer_are = tt; hangs = h; sorted = s }
+
     -- the length that was read at a place of the chain
     length_read : (a i : ℕ) (x : Entry (Seat P)) → InPlace L c ws a x → x.payload.place ≡ i → (held_prefix L ws i).length ≡ x.length
     length_read a i x p e = ap (λ (k : ℕ). (held_prefix L ws k).length) (sym e) ∙ p.length_there
@@ -101,7 +104,7 @@ module _ {P : Type 0} (L : Layout P) where
         pub chain_next : (j : ℕ) → next_at L ws i ≡ to_route j → AllAt first below (to_route j)
         chain_next j f a es h s = subst (AtCell a es below) f (chain_pass below e l a es h s).0
 
-        chain_last : i < c → next_at L ws i ≡ 0 → ChainCell L c ws from first n below
+        pub chain_last : i < c → next_at L ws i ≡ 0 → ChainCell L c ws from first n below
         chain_last m f = record {
           in_pool = inr (i, m, e);
           exact = λ a es h s. let b = (chain_pass below e l a es h s).0 in
@@ -115,15 +118,18 @@ module _ {P : Type 0} (L : Layout P) where
               };
         }
 
+        pub chain_damaged : (d : Damage) → i < c → HungRight L c ws i (held_prefix L ws i).length (Err d) → ChainCell L c ws from first n below
+        chain_damaged d m h = record {
+          in_pool = inr (i, m, e);
+          exact = λ a es g s. let v = chain_pass below e l a es g s in absurd (h a v.0.rest v.0.hangs v.1);
+        }
+
         -- a longer route behind which no other was read
         pub chain_left : i < c → (m : ℕ) → m ≡ (held_prefix L ws i).length → (r : Result (Option Place) Damage) → HungRight L c ws i m r
             → ((j : Place) → r ≡ Ok (Some j) → ⊥) → ChainCell L c ws from first n below
         chain_left u m f (Ok (Some p)) h o = absurd (o p refl)
         chain_left u m f (Ok None) h o = chain_last u h
-        chain_left u m f (Err d) h o = record {
-          in_pool = inr (i, u, e);
-          exact = λ a es g s. let v = chain_pass below e l a es g s in absurd (h a v.0.rest v.0.hangs (subst (λ (x : ℕ). Shorter x v.0.rest) (sym f) v.1));
-        }
+        chain_left u m f (Err d) h o = chain_damaged d u (λ a es g k. h a es g (subst (λ (x : ℕ). Shorter x es) (sym f) k))
 
 module _ {P : Type 0} (L : Layout P) (laid : Laid L) where
   -- the cell is in the pool

@@ -4,7 +4,7 @@ use mathlib.Core.Path.{◌≡◌, refl, sym, ap, subst, ◌∙◌}
 use mathlib.Core.List.{List, ◌∷◌, ◌++◌}
 use mathlib.Core.Option.{some}
 use native.Mathlib.Omega.{arith}
-use Rattle.std.specs.Prelude.{Option, Some, None, Ok}
+use Rattle.std.specs.Prelude.{Option, Some, None, Ok, Err}
 use lib.ListN.{length}
 use Rattle.model.specs.Prefix.{Prefix}
 use Rattle.model.specs.Routes.{Route, find}
@@ -15,11 +15,12 @@ use Rattle.patricia.specs.Way.{plug}
 use Rattle.pool.specs.Layout.{word, Layout, root_in}
 use Rattle.pool.specs.Link.{to_route}
 use Rattle.pool.specs.Holds.{Seat, Seated, bare, Chain, Holds}
+use Rattle.pool.specs.declared.damage.Damage.{Damage}
 use Rattle.pool.specs.declared.link.Place.{Place}
 use Rattle.pool.specs.Fit.{Fit}
 use Rattle.pool.proofs.Laid.{Laid}
 use Rattle.search.specs.Down.{End, Ways}
-use Rattle.search.proofs.Led.{led_chain, led_longest}
+use Rattle.search.proofs.Led.{led_not_empty, led_not_damaged, led_chain, led_longest}
 use Rattle.plan.specs.Cells.{end_cell}
 use Rattle.plan.specs.Steps.{CellRight, ChainCell}
 use Rattle.plan.specs.Plan.{HungAt, HeldThere}
@@ -75,6 +76,12 @@ module _ {P : Type 0} (L : Layout P) (laid : Laid L) where
   -- ---- in the whole tree
 
   module _ (c : ℕ) (ws : List ℕ) (p : Prefix) (inner : List ℕ) (deep : ℕ) (stop : End) (ways : Ways L c ws p.address inner deep stop) where
+    pub held_empty : stop ≡ Ok None → HeldRight L c ws p None
+    held_empty e = record { in_pool = tt; exact = λ t q h g f. led_not_empty L c ws p.address inner deep stop t (ways.leads t h g) e }
+
+    pub held_damaged : {d : Damage} → stop ≡ Err d → HeldRight L c ws p None
+    held_damaged e = record { in_pool = tt; exact = λ t q h g f. led_not_damaged L c ws p.address inner deep stop t (ways.leads t h g) e }
+
     module _ (i : Place) (e : stop ≡ Ok (Some i)) (from : ℕ) (x : CellRight L c ws inner deep p.address from) where
       -- what is found of the leaf's routes
       pub leaf_hung : (r : Option Held) → HungFrom L c ws from i.0 p.length r → (t : Seated P) (q : Route P) (h : Holds L c ws (root_in ws) t) (g : Good L.rules.width (bare t))

@@ -1,10 +1,10 @@
 -- Where a route goes in, from what the code has read.
 use Prim.Native.Nat.{ℕ}
-use mathlib.Core.Path.{◌≡◌, sym, ap, subst, ◌∙◌}
+use mathlib.Core.Path.{◌≡◌, refl, sym, ap, subst, ◌∙◌}
 use mathlib.Core.List.{List, ◌∷◌}
 use mathlib.Core.Option.{none}
 use native.Mathlib.Omega.{arith}
-use Rattle.std.specs.Prelude.{Some, Ok}
+use Rattle.std.specs.Prelude.{Some, None, Ok, Err}
 use Rattle.bits.specs.Address.{Part}
 use Rattle.model.specs.Prefix.{Prefix}
 use Rattle.model.specs.Routes.{find}
@@ -14,10 +14,11 @@ use Rattle.patricia.specs.Obeys.{LongestFirst}
 use Rattle.patricia.specs.Way.{plug, reached}
 use Rattle.pool.specs.Layout.{Layout, root_in, held_prefix}
 use Rattle.pool.specs.Holds.{Seat, Seated, bare, Holds}
+use Rattle.pool.specs.declared.damage.Damage.{Damage}
 use Rattle.pool.specs.declared.link.Place.{Place}
 use Rattle.pool.proofs.Laid.{Laid}
 use Rattle.search.specs.Down.{End, Ways}
-use Rattle.search.proofs.Led.{led_chain, led_longest}
+use Rattle.search.proofs.Led.{led_not_empty, led_not_damaged, led_chain, led_longest}
 use Rattle.plan.specs.Cells.{end_cell}
 use Rattle.plan.specs.Steps.{CellRight, LevelRight, ChainCell}
 use Rattle.plan.specs.Plan.{HangsAt, JoinsAt, PutRight}
@@ -28,6 +29,12 @@ use Rattle.plan.proofs.Lengths.{longest_tail, has_tail, lacks_shorter, absent_ha
 use Rattle.plan.proofs.Leads.{rooted, lead_way, lead_cell, lead_order, lead_find, lead_reached, lead_address}
 
 module _ {P : Type 0} (L : Layout P) (laid : Laid L) (c : ℕ) (ws : List ℕ) (p : Prefix) (inner : List ℕ) (deep : ℕ) (stop : End) (ways : Ways L c ws p.address inner deep stop) where
+  pub put_empty : stop ≡ Ok None → PutRight L c ws p put.First
+  put_empty e = record { empty = λ z. refl; exact = λ t h g. absurd (led_not_empty L c ws p.address inner deep stop t (ways.leads t h g) e) }
+
+  pub put_damaged : {d : Damage} → stop ≡ Err d → PutRight L c ws p put.First
+  put_damaged e = record { empty = λ z. refl; exact = λ t h g. absurd (led_not_damaged L c ws p.address inner deep stop t (ways.leads t h g) e) }
+
   module _ (i : Place) (e : stop ≡ Ok (Some i)) where
     pub put_hang : (from cell : ℕ) → (held_prefix L ws i.0).address ≡ p.address → CellRight L c ws inner deep p.address from
         → ChainCell L c ws from i.0 p.length cell → PutRight L c ws p (put.Hang cell)

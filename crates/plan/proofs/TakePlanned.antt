@@ -5,7 +5,7 @@ use mathlib.Core.List.{List, [], ◌∷◌, ◌++◌}
 use mathlib.Core.Logic.{◌⊎◌, inl, inr}
 use mathlib.Core.Option.{some}
 use native.Mathlib.Omega.{arith}
-use Rattle.std.specs.Prelude.{Some, None, Ok}
+use Rattle.std.specs.Prelude.{Some, None, Ok, Err}
 use lib.ListN.{length, get_or}
 use Rattle.bits.specs.Address.{bit}
 use Rattle.model.specs.Prefix.{Prefix}
@@ -16,10 +16,12 @@ use Rattle.patricia.specs.Way.{Step, went_left, went_right, plug, toward, Follow
 use Rattle.pool.specs.Layout.{word, Layout, root_in, next_at, mark_at, left_at, right_at}
 use Rattle.pool.specs.Holds.{Seat, Seated, bare, chain_places, Chain, Holds}
 use Rattle.pool.specs.Means.{Among}
+use Rattle.pool.specs.declared.damage.Damage.{Damage}
 use Rattle.pool.specs.declared.link.Place.{Place}
 use Rattle.pool.proofs.Frame.{among_append, routes_in_pool}
 use Rattle.pool.proofs.Laid.{Laid}
 use Rattle.search.specs.Down.{End, Kept, Led, Ways}
+use Rattle.search.proofs.Led.{led_not_empty, led_not_damaged}
 use Rattle.search.proofs.Chain.{chain_end}
 use Rattle.plan.specs.Cells.{cell_of, end_cell}
 use Rattle.plan.specs.Steps.{WayUsable, CellRight}
@@ -113,6 +115,12 @@ module _ {P : Type 0} (L : Layout P) (laid : Laid L) where
   -- ---- in the whole tree
 
   module _ (c : ℕ) (ws : List ℕ) (p : Prefix) (inner : List ℕ) (deep : ℕ) (stop : End) (ways : Ways L c ws p.address inner deep stop) where
+    pub take_empty : stop ≡ Ok None → TakeRight L c ws p None
+    take_empty e = record { in_pool = tt; exact = λ t q h g f. led_not_empty L c ws p.address inner deep stop t (ways.leads t h g) e }
+
+    pub take_damaged : {d : Damage} → stop ≡ Err d → TakeRight L c ws p None
+    take_damaged e = record { in_pool = tt; exact = λ t q h g f. led_not_damaged L c ws p.address inner deep stop t (ways.leads t h g) e }
+
     module _ (i : Place) (e : stop ≡ Ok (Some i)) (from : ℕ) (x : CellRight L c ws inner deep p.address from) where
       -- none of the leaf's routes has the length
       pub take_none : HungFrom L c ws from i.0 p.length None → TakeRight L c ws p None

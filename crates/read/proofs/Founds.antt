@@ -25,7 +25,7 @@ use Rattle.verdict.specs.Own.{OwnRight}
 use Rattle.promise.specs.Promise.{Meant, Promise, LookupPromise}
 use Rattle.promise.specs.Trees.{tree}
 use Rattle.std.specs.Prelude.{Ok}
-use Rattle.promise.proofs.Promises.{promise_of, meant_one}
+use Rattle.promise.proofs.Promises.{promise_of, meant_one, refuses_sound}
 use Rattle.verdict.proofs.Lent.{own_sound}
 
 module _ {P : Type 0} where
@@ -89,3 +89,9 @@ module _ {P : Type 0} (L : Layout P) (laid : Laid L) (ws : List ℕ) (c n : ℕ)
   next_answer p k v s m t h =
       walked (after p) k v (next_after p s.routes) s m (says_of k v 14 (next_after p) h.exact s m) (rw t) (rw t (shown_found 14 (next_after p s.routes) (λ z. omega arith)))
       (kept (accepted L.rules (after p) (some s)) (some s))
+
+-- a prefix that is not well formed
+module _ {P : Type 0} (L : Layout P) where
+  pub bad_prefix : (ws : List ℕ) (p : Prefix) (s : State P) → Means L ws s → well_formed L.rules.width p ≡ false
+      → Promise (tree L) (after p) ws ws 3 nothing
+  bad_prefix ws p s m f = refuses_sound (tree L) (after p) ws 3 s m (rw f) (λ z. omega arith)

@@ -1,7 +1,7 @@
 -- The run of the rehearsal, call by call: what the words mean is computed from the promises, and so is each number.
 use Prim.Native.Nat.{ℕ, ◌≤◌}
 use mathlib.Core.Path.{◌≡◌, refl, sym, subst, ◌∙◌}
-use mathlib.Core.Bool.{true, false, true≢false}
+use mathlib.Core.Bool.{Bool, true, false, true≢false}
 use mathlib.Core.List.{List, [], ◌∷◌}
 use mathlib.Core.Option.{none, some}
 use borrow.Author.Tests.{le-ltb}
@@ -16,7 +16,7 @@ use Rattle.model.specs.Examples.{ip, B, J, K}
 use Rattle.route.proofs.Laws.{never_zero}
 use Rattle.std.specs.Prelude.{Result, Ok, Err}
 use Rattle.std.specs.Result.{is_err}
-use Rattle.route.specs.Answers.{answer_number}
+use Rattle.route.specs.Answers.{answer_number, refusal_number}
 use Rattle.route.specs.declared.answer.Refusal.{Refusal}
 use Rattle.pool.specs.Layout.{size}
 use Rattle.pool.specs.Ipv4.{ipv4}
@@ -96,6 +96,18 @@ known n = refl
 
 pub followed_routes : (n : ℕ) (ws : List ℕ) → Ran (tree ipv4) (transcript n) ws → (s : State Payload) → Means ipv4 ws s → s.routes ≡ left
 followed_routes n ws r s h = run_routes (tree ipv4) r s h ∙ known n
+
+-- a buffer that is long enough is not refused
+pub not_begun : (ws zs : List ℕ) (n : ℕ) (x : Refusal) → FreshPromise (tree ipv4) 3 ws zs n → n ≡ refusal_number x
+    → (size ipv4 3 ≤ length ws → ◌≡◌ {A = Bool} false true)
+    × ((◌≡◌ {A = Bool} false true → Ran (tree ipv4) (transcript (length ws)) zs)
+    × (◌≡◌ {A = Bool} false true → (s : State Payload) → Means ipv4 zs s → s.routes ≡ left))
+not_begun ws zs n x p e =
+    let never : size ipv4 3 ≤ length ws → ⊥ = λ h. never_zero x (sym e ∙ p.number_is none ∙ enough h) in
+    (λ h. absurd (never h), (λ t. absurd (true≢false (sym t)), λ t. absurd (true≢false (sym t))))
+  where
+    enough : size ipv4 3 ≤ length ws → number ipv4.rules (fresh 3 (length ws)) none ≡ 0
+    enough h = let d : ltb (length ws) (size ipv4 3) ≡ false = le-ltb (length ws) (size ipv4 3) h in rw d
 
 -- ---- what an answer's number tells
 

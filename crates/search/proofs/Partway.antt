@@ -7,7 +7,7 @@ use native.Mathlib.Nat.{suc_inj}
 use native.Mathlib.Omega.{arith}
 use lib.ListN.{length, get_or, set}
 use lib.Seq.{get_or-set_same, get_or-set_other}
-use Rattle.std.specs.Prelude.{Some, None, Ok}
+use Rattle.std.specs.Prelude.{Some, None, Ok, Err}
 use Rattle.bits.specs.Address.{bit}
 use Rattle.bits.proofs.Cases.{eq_or_ne}
 use Rattle.patricia.specs.Good.{Good}
@@ -17,6 +17,7 @@ use Rattle.patricia.proofs.Form.{side}
 use Rattle.pool.specs.Layout.{Layout, root_in, mark_at, left_at, right_at}
 use Rattle.pool.specs.Link.{to_route, to_inner}
 use Rattle.pool.specs.Holds.{Seat, Seated, bare, Holds}
+use Rattle.pool.specs.declared.damage.Damage.{Damage}
 use Rattle.pool.proofs.Unique.{not_nothing}
 use Rattle.search.specs.Seen.{Starts, SeenRight}
 use Rattle.search.specs.Down.{AllUsable, Kept, Led, Usable, Ways}
@@ -63,6 +64,14 @@ module _ {P : Type 0} (L : Layout P) where
   -- whatever good tree the words hold, the link is partway down it
   abbrev pub AllPartway : ℕ → List ℕ → ℕ → List ℕ → ℕ → ℕ → ℕ → Type 0
   AllPartway c ws d inner deep link lowest = (t : Seated P) → Holds L c ws (root_in ws) t → Good L.rules.width (bare t) → Partway c ws d inner deep link lowest t
+
+  pub starts_zero : (t : Seated P) → Starts 0 t
+  starts_zero (leaf a es) = tt
+  starts_zero (node j b l r) = omega arith
+
+  pub at_root_lem : (c : ℕ) (ws : List ℕ) (d : ℕ) (inner : List ℕ) → AllPartway c ws d inner 0 (root_in ws) 0
+  at_root_lem c ws d inner t h g =
+      record { way = []; part = t; whole = refl; follows = tt; steps = refl; places = tt; there = h; good = g; later = starts_zero t }
 
   -- a step down
   pub step_down : (c : ℕ) (ws : List ℕ) (d : ℕ) (inner : List ℕ) (deep link lowest j b next : ℕ) → AllPartway c ws d inner deep link lowest
@@ -149,7 +158,7 @@ module _ {P : Type 0} (L : Layout P) where
           }
       go (node j b l r) w k = let u : link ≡ to_inner j = k.0 in absurd (omega arith)
 
-  -- ---- the ends
+  -- ---- the three ends
 
   pub ways_leaf : (c : ℕ) (ws : List ℕ) (d : ℕ) (inner : List ℕ) (deep link lowest i : ℕ) → deep ≤ L.rules.width → AllUsable L c ws inner deep
       → AllPartway c ws d inner deep link lowest → (root_in ws ≡ 0 → ⊥) → SeenRight L c ws link lowest (Ok (Leaf (record { 0 = i })))
@@ -160,6 +169,16 @@ module _ {P : Type 0} (L : Layout P) where
     end_in_pool = s.0;
     empty = λ e. absurd (n e);
     leads = at_leaf c ws d inner deep link lowest i all s.1;
+  }
+
+  pub ways_damaged : (c : ℕ) (ws : List ℕ) (d : ℕ) (inner : List ℕ) (deep link lowest : ℕ) {x : Damage} → deep ≤ L.rules.width → AllUsable L c ws inner deep
+      → AllPartway c ws d inner deep link lowest → (root_in ws ≡ 0 → ⊥) → SeenRight L c ws link lowest (Err x) → Ways L c ws d inner deep (Err x)
+  ways_damaged c ws d inner deep link lowest h u all n s = record {
+    shallow = h;
+    usable = u;
+    end_in_pool = tt;
+    empty = λ e. absurd (n e);
+    leads = λ t k g. let p = all t k g in absurd (s p.part p.there p.good p.later);
   }
 
   pub ways_empty : (c : ℕ) (ws : List ℕ) (d : ℕ) (inner : List ℕ) → root_in ws ≡ 0 → Ways L c ws d inner 0 (Ok None)

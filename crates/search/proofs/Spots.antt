@@ -21,13 +21,14 @@ use Rattle.pool.specs.Link.{to_route}
 use Rattle.pool.specs.Holds.{Seat, Seated, bare, bare_root, bare_entries, chain_places, route_places, Chain, HoldsRoot}
 use Rattle.pool.specs.Means.{Among, routes_used, Means}
 use Rattle.pool.specs.declared.link.Place.{Place}
+use Rattle.pool.specs.declared.damage.Damage.{Damage}
 use Rattle.pool.proofs.Frame.{among_append}
 use Rattle.search.specs.Chain.{HungRight}
 use Rattle.search.specs.Down.{End, Led, Ways}
 use Rattle.search.specs.Find.{Spot, is_at, SpotInPool, Spotted, seek, SpotIn, Finds}
 use Rattle.search.proofs.Bare.{bare_way, bare_follows}
-use Rattle.search.proofs.Led.{led_chain, led_bare, led_good, led_longest}
-use Rattle.search.proofs.Chain.{Behind, route_there, prefix_there, behind_start, behind_next, behind_last}
+use Rattle.search.proofs.Led.{led_not_empty, led_not_damaged, led_chain, led_bare, led_good, led_longest}
+use Rattle.search.proofs.Chain.{Behind, route_there, prefix_there, behind_start, behind_next, behind_last, behind_length}
 
 module _ {P : Type 0} (L : Layout P) where
   -- the two searches that are asked for
@@ -82,7 +83,7 @@ module _ {P : Type 0} (L : Layout P) where
         let t : test (record { address = a; length = b.entry.length }) ≡ false = ap test (sym (prefix_there L c ws a i b.entry b.there b.here)) ∙ f in
         rw t (spotted_more ws (chain_places b.rest) (chain_places (b.entry ∷ b.rest)) o (seek test (hung a (bare_entries b.rest))) (λ k h. inr h) q)
 
-    along_next : (i j : ℕ) → Along c ws test first i → test (held_prefix L ws i) ≡ false → next_at L ws i ≡ to_route j → Along c ws test first j
+    pub along_next : (i j : ℕ) → Along c ws test first i → test (held_prefix L ws i) ≡ false → next_at L ws i ≡ to_route j → Along c ws test first j
     along_next i j all f e a es h g = let b = all a es h g in behind_next L c ws (Sought ws test a) a i j es b e (skip a i es b f)
 
     pub along_hit : (i : ℕ) → i < c → Along c ws test first i → test (held_prefix L ws i) ≡ true → SpotIn L c ws first test (Ok (Some (record { 0 = i })))
@@ -93,10 +94,17 @@ module _ {P : Type 0} (L : Layout P) where
           b.carries (Ok (Some (record { 0 = i }))) (rw u (inl (sym b.here), route_there L c ws a i b.entry b.there b.here));
     }
 
-    along_end : (i : ℕ) → Along c ws test first i → test (held_prefix L ws i) ≡ false → next_at L ws i ≡ 0 → SpotIn L c ws first test (Ok None)
+    pub along_end : (i : ℕ) → Along c ws test first i → test (held_prefix L ws i) ≡ false → next_at L ws i ≡ 0 → SpotIn L c ws first test (Ok None)
     along_end i all f e = record {
       in_pool = tt;
       exact = λ a es h g. let b = all a es h g in behind_last L c ws (Sought ws test a) a i es b e (skip a i es b f) (Ok None) tt;
+    }
+
+    pub along_damaged : (i n : ℕ) {x : Damage} → Along c ws test first i → n ≡ (held_prefix L ws i).length → HungRight L c ws i n (Err x)
+        → SpotIn L c ws first test (Err x)
+    along_damaged i n all e d = record {
+      in_pool = tt;
+      exact = λ a es h g. let b = all a es h g in absurd (d a b.rest b.hangs (behind_length L c ws (Sought ws test a) a i n es b e));
     }
 
     -- past the place: at the next one, or behind the last
@@ -124,9 +132,19 @@ module _ {P : Type 0} (L : Layout P) where
         sym (find_in_lem L.rules.width p (bare t) g) ∙ ap (find_in L.rules.width p) e ∙ find_plug L.rules.width p w part (bare_follows L.rules.width p.address l.way l.follows)
         ∙ find_in_lem L.rules.width p part (led_good L c ws p.address inner deep stop t l g) ∙ seek_find p (routes part)
 
+    pub finds_empty : stop ≡ Ok None → Finds L c ws p (Ok None)
+    finds_empty e = record { in_pool = tt; empty = λ z. refl; exact = λ t h g. absurd (led_not_empty L c ws p.address inner deep stop t (ways.leads t h g) e) }
+
     -- where there is no root the end is the empty one
     rooted : (x : End) → stop ≡ x → (◌≡◌ {A = End} (Ok None) x → ⊥) → root_in ws ≡ 0 → ⊥
     rooted x e f z = f (sym (ways.empty z) ∙ e)
+
+    pub finds_damaged : {x : Damage} → stop ≡ Err x → Finds L c ws p (Err x)
+    finds_damaged e = record {
+      in_pool = tt;
+      empty = λ z. absurd (rooted _ e (λ f. cc) z);
+      exact = λ t h g. absurd (led_not_damaged L c ws p.address inner deep stop t (ways.leads t h g) e);
+    }
 
     pub finds_leaf : (i : Place) (o : Spot) → stop ≡ Ok (Some i) → SpotIn L c ws i.0 (same p) o → Finds L c ws p o
     finds_leaf i o e s = record {

@@ -22,8 +22,9 @@ use Rattle.pool.specs.declared.action.Action.{Action}
 use Rattle.pool.specs.declared.action.Action.TheVariants.{Added, Deleted, Changed}
 use Rattle.pool.specs.Means.{Records, Recorded, TrialThere, Means}
 use Rattle.pool.proofs.Local.{recorded_length}
+use Rattle.pool.specs.Fit.{Fit}
 use Rattle.pool.specs.Write.{writes}
-use Rattle.pool.proofs.Laid.{Laid, head_in}
+use Rattle.pool.proofs.Laid.{Laid, payload_fits, head_in}
 use Rattle.rows.specs.Writes.{head_writes}
 use Rattle.edit.specs.Encodes.{Encodes, ToPut, ToTake}
 use Rattle.edit.proofs.Encodes.{means_encodes}
@@ -182,14 +183,17 @@ module _ {P : Type 0} (L : Layout P) where
           go (deleted r) k = ap (λ (z : Route P). insert z s.routes) (sym (same_route r (prefix r.prefix k.1) (hop r.payload k.3)))
           go (changed q old new) k = absurd (omega (arith, e, action 3 k.0))
 
-      -- a hop change is taken back by the old hop
-      pub change_undone : (zs : List ℕ) → word ws at ≡ 3 → Encodes L zs (with_trial s (replace back s.routes) s.trial) → Undone zs s
-      change_undone zs e h = undone c ws zs s (newest c ws s a) (replace back s.routes) (go (newest c ws s a).change (newest c ws s a).records) h
+      -- a hop change is taken back by the old hop; what is neither an add nor a delete is one
+      pub other_undone : (zs : List ℕ) → (word ws at ≡ 1 → ⊥) → (word ws at ≡ 2 → ⊥) → Encodes L zs (with_trial s (replace back s.routes) s.trial) → Undone zs s
+      other_undone zs e f h = undone c ws zs s (newest c ws s a) (replace back s.routes) (go (newest c ws s a).change (newest c ws s a).records) h
         where
           go : (x : Change P) → Records L c ws (standing_in ws - 1) x → undo x s.routes ≡ replace back s.routes
-          go (added r) k = absurd (omega (arith, e, action 1 k.0))
-          go (deleted r) k = absurd (omega (arith, e, action 2 k.0))
+          go (added r) k = absurd (e (action 1 k.0))
+          go (deleted r) k = absurd (f (action 2 k.0))
           go (changed q old new) k = ap (λ (z : Route P). replace z s.routes) (sym (same_route (record { prefix = q; payload = old }) (prefix q k.1) (hop old k.3)))
+
+      pub change_undone : (zs : List ℕ) → word ws at ≡ 3 → Encodes L zs (with_trial s (replace back s.routes) s.trial) → Undone zs s
+      change_undone zs e h = other_undone zs (λ z. omega (arith, e, z)) (λ z. omega (arith, e, z)) h
 
   -- ---- its record, before and after it is struck
 
@@ -257,6 +261,12 @@ module _ {P : Type 0} (L : Layout P) where
           }
 
 module _ {P : Type 0} (L : Layout P) (laid : Laid L) where
+  -- its slot is in the pool, as far as the hop after: what is read of it ends before that
+  pub slot_fits : (c : ℕ) (ws : List ℕ) (at : ℕ) → Fit L c ws → Accepted L c step_back ws → at ≡ L.slot c (standing_in ws - 1) → at + L.new_offset < length ws
+  slot_fits c ws at f a is =
+      let n = newest L c ws a.0 a.1 in
+      omega (arith, f.1, laid.slot_in c (standing_in ws - 1) (omega (arith, n.few, n.stands)), laid.new_fits, payload_fits laid)
+
   -- ---- its record struck
 
   -- a change still stands after it was undone in the table

@@ -1,5 +1,5 @@
 -- The first route of a tree: that of its leftmost leaf.
-use Rattle.std.specs.Prelude.{Ok}
+use Rattle.std.specs.Prelude.{Ok, Err}
 use Prim.Native.Nat.{ℕ}
 use mathlib.Core.Path.{◌≡◌, refl, sym, ap, subst, ◌∙◌}
 use mathlib.Core.List.{List, ◌∷◌}
@@ -17,6 +17,7 @@ use Rattle.pool.specs.Layout.{Layout, root_in, right_at}
 use Rattle.pool.specs.Fit.{route_at}
 use Rattle.pool.specs.Holds.{Seat, Seated, bare, bare_root, Holds, HoldsRoot}
 use Rattle.pool.specs.declared.link.Place.{Place}
+use Rattle.pool.specs.declared.damage.Damage.{Damage}
 use Rattle.pool.proofs.Unique.{not_nothing}
 use Rattle.search.specs.Down.{Kept}
 use Rattle.search.specs.Says.{Says, Loose}
@@ -46,6 +47,12 @@ module _ {P : Type 0} (L : Layout P) where
           let one = first_left t g ∙ ap (λ (x : Seated P). first_of (routes (bare x))) l.is in
           subst (Says 0 (route r) 14) (sym one) (refl, ap route (e ∙ there))
 
+  pub fronts_damaged : (c : ℕ) (ws : List ℕ) (link : ℕ) {x : Damage} → Leftmost L c ws link (Err x) → Fronts L c ws link 9 nothing
+  fronts_damaged c ws link m = record {
+    loose = inr (inl refl);
+    exact = λ t h g. let l = m.leads t h g in let f = l.ends in absurd cc;
+  }
+
   -- ---- in the whole pool
 
   pub firsts_empty : (c : ℕ) (ws : List ℕ) → root_in ws ≡ 0 → Firsts L c ws 14 nothing
@@ -54,6 +61,13 @@ module _ {P : Type 0} (L : Layout P) where
       go : (t : Root ℕ (Seat P)) → HoldsRoot L c ws (root_in ws) t → RootGood L.rules.width (bare_root t) → Says {P = P} 14 nothing 14 (first_of (root_routes (bare_root t)))
       go none h g = (refl, refl)
       go (some t) h g = absurd (not_nothing L c ws (root_in ws) t h e)
+
+  pub firsts_front : (c : ℕ) (ws : List ℕ) (n : ℕ) (v : Value P) → (root_in ws ≡ 0 → ⊥) → Fronts L c ws (root_in ws) n v → Firsts L c ws n v
+  firsts_front c ws n v ne s = record { loose = s.loose; exact = go }
+    where
+      go : (t : Root ℕ (Seat P)) → HoldsRoot L c ws (root_in ws) t → RootGood L.rules.width (bare_root t) → Says n v 14 (first_of (root_routes (bare_root t)))
+      go none h g = absurd (ne h)
+      go (some t) h g = s.exact t h g
 
   -- ---- to the right of a way
 

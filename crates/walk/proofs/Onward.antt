@@ -16,23 +16,23 @@ use Rattle.model.specs.Call.{Value, nothing, route}
 use Rattle.model.proofs.Routes.{all_after}
 use Rattle.model.proofs.Walk.{next_front}
 use Rattle.model.proofs.Append.{AllBefore}
-use Rattle.patricia.specs.Good.{All, Good}
-use Rattle.patricia.specs.Tree.{Tree, leaf, hung, routes}
+use Rattle.patricia.specs.Good.{All, Good, RootGood}
+use Rattle.patricia.specs.Tree.{Tree, leaf, Root, hung, routes, root_routes}
 use Rattle.patricia.specs.Way.{Step, plug}
 use Rattle.patricia.proofs.Form.{all_under, held_under, routes_some}
 use Rattle.patricia.proofs.Search.{or_else}
 use Rattle.pool.specs.Layout.{Layout, root_in, held_prefix}
 use Rattle.pool.specs.Fit.{route_at}
 use Rattle.pool.specs.Link.{to_route, to_inner}
-use Rattle.pool.specs.Holds.{Seat, Seated, bare, bare_entries, chain_places, Chain, Holds}
+use Rattle.pool.specs.Holds.{Seat, Seated, bare, bare_root, bare_entries, chain_places, Chain, Holds, HoldsRoot}
 use Rattle.pool.specs.declared.link.Place.{Place}
 use Rattle.pool.specs.declared.damage.Damage.{Damage}
 use Rattle.search.specs.Down.{End, EndsAt, Led, Ways}
 use Rattle.search.specs.Find.{Spotted, seek, SpotIn}
 use Rattle.search.specs.Says.{Says}
-use Rattle.walk.specs.Walk.{Fronts, RightSide, Rejoined, Goes}
+use Rattle.walk.specs.Walk.{Fronts, RightSide, Rejoined, Goes, Nexts}
 use Rattle.search.proofs.Bare.{bare_way, bare_plug}
-use Rattle.search.proofs.Led.{led_chain, led_bare, led_longest}
+use Rattle.search.proofs.Led.{led_not_empty, led_not_damaged, led_chain, led_bare, led_longest}
 use Rattle.search.proofs.Chain.{prefix_there}
 use Rattle.search.proofs.Spots.{seek_next}
 use Rattle.search.proofs.Rising.{PartHeld, part_held}
@@ -216,3 +216,31 @@ module _ {P : Type 0} (L : Layout P) where
             ∙ first_else (routes (bare v.part)) (later (bare_way v.upper)) (routes_some L.rules.width (bare v.part) v.held.good)))
             (f.exact v.part (v.there link w) v.held.good);
       }
+
+  -- ---- in the whole pool
+
+  module _ (c : ℕ) (ws : List ℕ) (p : Prefix) (inner : List ℕ) (deep : ℕ) (stop : End) (ways : Ways L c ws p.address inner deep stop) where
+    pub nexts_leaf : (i : Place) (k n : ℕ) (v : Value P) → stop ≡ Ok (Some i) → Part L.rules.width p.address (held_prefix L ws i.0).address k
+        → Goes L c ws p i.0 k n v → Nexts L c ws p n v
+    nexts_leaf i k n v e split s = record { loose = s.loose; exact = go }
+      where
+        go : (t : Root ℕ (Seat P)) → HoldsRoot L c ws (root_in ws) t → RootGood L.rules.width (bare_root t)
+            → Says n v 14 (next_after p (root_routes (bare_root t)))
+        go none h g = let f = ways.empty h in absurd cc
+        go (some t) h g = s.exact split t h g
+
+    pub nexts_empty : stop ≡ Ok None → Nexts L c ws p 14 nothing
+    nexts_empty e = record { loose = inr (inr refl); exact = go }
+      where
+        go : (t : Root ℕ (Seat P)) → HoldsRoot L c ws (root_in ws) t → RootGood L.rules.width (bare_root t)
+            → Says {P = P} 14 nothing 14 (next_after p (root_routes (bare_root t)))
+        go none h g = (refl, refl)
+        go (some t) h g = absurd (led_not_empty L c ws p.address inner deep stop t (ways.leads t h g) e)
+
+    pub nexts_damaged : {x : Damage} → stop ≡ Err x → Nexts L c ws p 9 nothing
+    nexts_damaged e = record { loose = inr (inl refl); exact = go }
+      where
+        go : (t : Root ℕ (Seat P)) → HoldsRoot L c ws (root_in ws) t → RootGood L.rules.width (bare_root t)
+            → Says {P = P} 9 nothing 14 (next_after p (root_routes (bare_root t)))
+        go none h g = let f = ways.empty h in absurd cc
+        go (some t) h g = absurd (led_not_damaged L c ws p.address inner deep stop t (ways.leads t h g) e)
